@@ -1,0 +1,15 @@
+-- The theorems at the table of CWR 2.2. Assumes nothing.
+use Rattle.format.specs.Cwr22.{cwr22}
+use Rattle.format.specs.Claims.{Demand3, Numbers, Fits}
+use Rattle.format.proofs.Demand3.{demand3}
+use Rattle.format.proofs.Numbering.{numbers}
+use Rattle.format.proofs.Fits.{fits}
+
+pub demand3-22 : Demand3 cwr22
+demand3-22 = demand3 cwr22
+
+pub numbers-22 : Numbers cwr22
+numbers-22 = numbers cwr22
+
+pub fits-22 : Fits cwr22
+fits-22 = fits cwr22

@@ -1,0 +1,13 @@
+pub mod Logic
+pub mod Decimal
+pub mod Lines
+pub mod Slots
+pub mod Passes
+pub mod Tree
+pub mod Written
+pub mod Answers
+pub mod Demand3
+pub mod Numbering
+pub mod Fits
+pub mod At22
+pub mod Examples

@@ -1,0 +1,13 @@
+pub mod Ascii
+pub mod Bytes
+pub mod Fields
+pub mod Doc
+pub mod Table
+pub mod Cwr22
+pub mod Stages
+pub mod WellFormed
+pub mod Lines
+pub mod Checks
+pub mod Structure
+pub mod Numbering
+pub mod Claims
