@@ -1,0 +1,87 @@
+// The bytes of a field: the part of a record that a field is, what it may hold, and numbers read from it and written into it.
+ghost use mathlib.Core.Path.{_≡_};
+ghost use Prim.Native.Nat.{_+_, _-_, _^_, _<_, _≤_};
+ghost use lib.ListN.{length};
+ghost use Rattle.format.specs.Bytes.{decimal};
+ghost use Rattle.format.specs.Fields.{fieldOf, isBlank, isDigit, areDigits, digit, numberOf};
+
+// The part of a record with this start, counted from 1, and this size: lent, not copied.
+pub fn field(record: &[u8], start: usize, size: usize) -> &[u8]
+    requires { ⌜ (1 ≤ start) × (start - 1 + size ≤ length (now «record»)) ⌝ }
+    ensures { λ r. ⌜ now r ≡ fieldOf start size (now («record» .entry)) ⌝ }
+    ensures { λ r. ⌜ length (now r) ≡ size ⌝ }
+{
+    let a = start - 1;
+    let e = a + size;
+    &record[a..e]
+}
+
+// Whether each byte is a space, as it is in an empty field.
+pub fn blank(field: &[u8]) -> bool
+    ensures { λ r. ⌜ r ≡ isBlank (now (field .entry)) ⌝ }
+{
+    let mut i = 0;
+    while i < field.len() {
+        if field[i] != 32 {
+            return false;
+        }
+        i += 1;
+    }
+    true
+}
+
+pub fn is_digit(b: u8) -> bool
+    ensures { λ r. ⌜ r ≡ isDigit b ⌝ }
+{
+    (48 <= b) & (b <= 57)
+}
+
+// Whether each byte is a digit, as it is in an empty field.
+pub fn digits(field: &[u8]) -> bool
+    ensures { λ r. ⌜ r ≡ areDigits (now (field .entry)) ⌝ }
+{
+    let mut i = 0;
+    while i < field.len() {
+        if !is_digit(field[i]) {
+            return false;
+        }
+        i += 1;
+    }
+    true
+}
+
+// What a digit stands for; 0 of any other byte.
+pub fn digit(b: u8) -> u64
+    ensures { λ r. ⌜ r ≡ digit b ⌝ }
+    ensures { λ r. ⌜ r ≤ 9 ⌝ }
+{
+    if is_digit(b) { (b - 48) as u64 } else { 0 }
+}
+
+// The number that a field's digits write. Nineteen are the most that always fit.
+pub fn number(field: &[u8]) -> u64
+    requires { ⌜ length (now field) ≤ 19 ⌝ }
+    ensures { λ r. ⌜ r ≡ numberOf (now (field .entry)) ⌝ }
+    ensures { λ r. ⌜ r < 10 ^ length (now (field .entry)) ⌝ }
+{
+    let mut n = 0;
+    let mut i = 0;
+    while i < field.len() {
+        n = 10 * n + digit(field[i]);
+        i += 1;
+    }
+    n
+}
+
+// Writes the last digits of n over the whole of out, zero-filled, from the last byte to the first.
+pub fn decimal(n: u64, out: &mut [u8])
+    ensures { λ _. ⌜ now (out .exit) ≡ decimal (length (now (out .entry))) n ⌝ }
+{
+    let mut rest = n;
+    let mut i = out.len();
+    while 0 < i {
+        i -= 1;
+        out[i] = 48 + (rest % 10) as u8;
+        rest = rest / 10;
+    }
+}
