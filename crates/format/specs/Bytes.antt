@@ -49,11 +49,16 @@ abbrev pub unlines : List Bytes → Bytes
 unlines [] = []
 unlines (r ∷ rs) = r ++ 13 ∷ 10 ∷ unlines rs
 
--- how many CR LF pairs a file has
+-- LF stands first; CR LF does
 abbrev pub beginsLF : Bytes → Bool
 beginsLF [] = false
 beginsLF (b ∷ f) = eqb b 10
 
+abbrev pub beginsPair : Bytes → Bool
+beginsPair [] = false
+beginsPair (b ∷ f) = eqb b 13 && beginsLF f
+
+-- how many CR LF pairs there are
 abbrev pub pairs : Bytes → ℕ
 pairs [] = 0
-pairs (b ∷ f) = cond (eqb b 13 && beginsLF f) (suc (pairs f)) (pairs f)
+pairs (b ∷ f) = cond (beginsPair (b ∷ f)) (suc (pairs f)) (pairs f)
