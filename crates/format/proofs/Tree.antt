@@ -1,6 +1,5 @@
 -- The list of held records against the tree of groups and transactions: places are right exactly on the lists of trees, and the tree
 -- is found again. Assumes nothing.
-use Prim.Native.Nat.{ℕ, zero, suc}
 use mathlib.Core.Path.{_≡_, refl, sym, ap, _∙_, subst}
 use mathlib.Core.Bool.{Bool, true, false, _||_}
 use mathlib.Core.List.{List, [], _∷_, _++_, map, append-assoc}
@@ -9,7 +8,7 @@ use Rattle.format.specs.Bytes.{Bytes, All}
 use Rattle.format.specs.Doc.{Doc, Group, Transaction}
 use Rattle.format.specs.Table.{Class, hdr, grh, head, detail, grt, trl, unknown}
 use Rattle.format.specs.WellFormed.{Item, item, itemsT, itemsG, items, NotEmpty}
-use Rattle.format.specs.Checks.{code, is, mayFollow}
+use Rattle.format.specs.Checks.{code, classAt, is, mayFollow}
 use Rattle.format.proofs.Logic.{or-elim}
 use Rattle.format.proofs.Passes.{Places}
 
@@ -106,27 +105,17 @@ as-detail (tail ds ts t gs z) ss k = k
 any : (b : Tail) (ss : List Item) → Ok unknown b ss
 any (tail ds ts t gs z) ss = tt
 
-decode : ℕ → Class
-decode zero = hdr
-decode (suc zero) = grh
-decode (suc (suc zero)) = head
-decode (suc (suc (suc zero))) = detail
-decode (suc (suc (suc (suc zero)))) = grt
-decode (suc (suc (suc (suc (suc zero))))) = trl
-decode (suc (suc (suc (suc (suc (suc n)))))) = unknown
-
-decode-code : (c : Class) → decode (code c) ≡ c
-unfolding decode
-decode-code hdr = refl
-decode-code grh = refl
-decode-code head = refl
-decode-code detail = refl
-decode-code grt = refl
-decode-code trl = refl
-decode-code unknown = refl
+pub class-code : (c : Class) → classAt (code c) ≡ c
+class-code hdr = refl
+class-code grh = refl
+class-code head = refl
+class-code detail = refl
+class-code grt = refl
+class-code trl = refl
+class-code unknown = refl
 
 pub is→eq : (c d : Class) → T (is c d) → c ≡ d
-is→eq c d t = sym (decode-code c) ∙ ap decode (eqb→eq (code c) (code d) t) ∙ decode-code d
+is→eq c d t = sym (class-code c) ∙ ap classAt (eqb→eq (code c) (code d) t) ∙ class-code d
 
 module _ (P : Class → Type 0) where
   pub by-one : (c e : Class) → T (is c e) → P c → P e

@@ -13,10 +13,10 @@ abbrev pub All : {A : Type 0} → (A → Type 0) → List A → Type 0
 All P [] = Unit {0}
 All P (x ∷ xs) = P x × All P xs
 
--- the test p passes at each byte
-abbrev pub every : (ℕ → Bool) → Bytes → Bool
+-- the test p passes at each element
+abbrev pub every : {A : Type 0} → (A → Bool) → List A → Bool
 every p [] = true
-every p (b ∷ bs) = p b && every p bs
+every p (x ∷ xs) = p x && every p xs
 
 abbrev pub sameBytes : Bytes → Bytes → Bool
 sameBytes [] [] = true

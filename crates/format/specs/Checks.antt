@@ -3,7 +3,7 @@ use Prim.Native.Nat.{ℕ, suc, pred, _+_}
 use mathlib.Core.Bool.{Bool, true, false, cond, _&&_, _||_, not}
 use mathlib.Core.Option.{Option, none, some}
 use mathlib.Core.List.{List, [], _∷_, _++_}
-use lib.ListN.{length, take, drop}
+use lib.ListN.{length, take, drop, getD}
 use lib.Dec.{T, eqb}
 use Rattle.format.specs.Bytes.{Bytes, sameBytes, decimal}
 use Rattle.format.specs.Table.{Class, hdr, grh, head, detail, grt, trl, unknown, known, at, width, Table}
@@ -26,6 +26,7 @@ faultOf K rs = faultFrom K (K .begin) 0 rs
 
 -- ---- places (7)
 
+-- the classes as numbers, as code has them
 abbrev pub code : Class → ℕ
 code hdr = 0
 code grh = 1
@@ -34,6 +35,9 @@ code detail = 3
 code grt = 4
 code trl = 5
 code unknown = 6
+
+abbrev pub classAt : ℕ → Class
+classAt n = getD (hdr ∷ grh ∷ head ∷ detail ∷ grt ∷ trl ∷ []) n unknown
 
 abbrev pub is : Class → Class → Bool
 is c d = eqb (code c) (code d)

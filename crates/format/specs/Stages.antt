@@ -2,14 +2,20 @@
 -- orders are right is said where the findings are; here stands which type has which spot.
 use Prim.Native.Nat.{ℕ, suc}
 use Prim.Native.String.{String}
-use mathlib.Core.Bool.{Bool, true, false, cond, _||_}
+use mathlib.Core.Bool.{Bool, true, false, cond, _&&_, _||_}
 use mathlib.Core.List.{List, [], _∷_, _++_}
 use Rattle.format.specs.Ascii.{ascii}
 use Rattle.format.specs.Bytes.{Bytes, sameBytes}
 
--- a leader, and the brackets behind it, rank by rank; the brackets of a free stage may begin it without the leader
+-- whether its brackets may begin it without the leader; the leader; the brackets behind it, rank by rank
 pub data Stage : Type 0 where
-  led free : Bytes → List (List Bytes) → Stage
+  stage : Bool → Bytes → List (List Bytes) → Stage
+
+abbrev pub led : String → List (List Bytes) → Stage
+led leader brackets = stage false (ascii leader) brackets
+
+abbrev pub free : String → List (List Bytes) → Stage
+free leader brackets = stage true (ascii leader) brackets
 
 abbrev pub one : String → List Bytes
 one a = ascii a ∷ []
@@ -20,21 +26,21 @@ mixed a b = ascii a ∷ ascii b ∷ []
 -- counted from 1
 unfoldable pub stages : List Stage
 stages =
-    led (ascii "SPU") (one "NPN" ∷ mixed "SPT" "OPT" ∷ [])
-    ∷ led (ascii "OPU") (one "NPN" ∷ one "OPT" ∷ [])
-    ∷ led (ascii "SWR") (one "NWN" ∷ one "SWT" ∷ one "PWR" ∷ [])
-    ∷ led (ascii "OWR") (one "NWN" ∷ one "OWT" ∷ one "PWR" ∷ [])
-    ∷ led (ascii "ALT") []
-    ∷ led (ascii "NAT") []
-    ∷ led (ascii "EWT") (one "NET" ∷ one "NOW" ∷ [])
-    ∷ led (ascii "VER") (one "NVT" ∷ one "NOW" ∷ [])
-    ∷ free (ascii "PER") (one "NPR" ∷ [])
-    ∷ led (ascii "REC") []
-    ∷ led (ascii "ORN") []
-    ∷ free (ascii "INS") (one "IND" ∷ [])
-    ∷ led (ascii "COM") (one "NCT" ∷ one "NOW" ∷ [])
-    ∷ led (ascii "ARI") []
-    ∷ led (ascii "XRF") []
+    led "SPU" (one "NPN" ∷ mixed "SPT" "OPT" ∷ [])
+    ∷ led "OPU" (one "NPN" ∷ one "OPT" ∷ [])
+    ∷ led "SWR" (one "NWN" ∷ one "SWT" ∷ one "PWR" ∷ [])
+    ∷ led "OWR" (one "NWN" ∷ one "OWT" ∷ one "PWR" ∷ [])
+    ∷ led "ALT" []
+    ∷ led "NAT" []
+    ∷ led "EWT" (one "NET" ∷ one "NOW" ∷ [])
+    ∷ led "VER" (one "NVT" ∷ one "NOW" ∷ [])
+    ∷ free "PER" (one "NPR" ∷ [])
+    ∷ led "REC" []
+    ∷ led "ORN" []
+    ∷ free "INS" (one "IND" ∷ [])
+    ∷ led "COM" (one "NCT" ∷ one "NOW" ∷ [])
+    ∷ led "ARI" []
+    ∷ led "XRF" []
     ∷ []
 
 -- a stage, and in it the leader's rank 0 or the rank of a bracket, from 1 on
@@ -43,7 +49,7 @@ pub data Spot : Type 0 where
 
 abbrev pub among : Bytes → List Bytes → Bool
 among t [] = false
-among t (u ∷ us) = sameBytes t u || among t us
+among t (u ∷ us) = sameBytes u t || among t us
 
 abbrev pub when : {A : Type 0} → Bool → A → List A → List A
 when b x xs = cond b (x ∷ xs) xs
@@ -55,8 +61,7 @@ inBrackets n r t (b ∷ bs) = when (among t b) (spot n r) (inBrackets n (suc r) 
 
 -- the spots of a type in stage n
 abbrev pub spotsIn : ℕ → Bytes → Stage → List Spot
-spotsIn n t (led u bs) = when (sameBytes t u) (spot n 0) (inBrackets n 1 t bs)
-spotsIn n t (free u bs) = when (sameBytes t u) (spot n 0) (inBrackets n 1 t bs)
+spotsIn n t (stage b u bs) = when (sameBytes u t) (spot n 0) (inBrackets n 1 t bs)
 
 abbrev pub spotsFrom : ℕ → Bytes → List Stage → List Spot
 spotsFrom n t [] = []
@@ -72,8 +77,7 @@ amongAny t (b ∷ bs) = among t b || amongAny t bs
 
 abbrev pub beginsAny : Bytes → List Stage → Bool
 beginsAny t [] = false
-beginsAny t (led u bs ∷ ss) = beginsAny t ss
-beginsAny t (free u bs ∷ ss) = amongAny t bs || beginsAny t ss
+beginsAny t (stage b u bs ∷ ss) = (b && amongAny t bs) || beginsAny t ss
 
 unfoldable pub begins : Bytes → Bool
 begins t = beginsAny t stages

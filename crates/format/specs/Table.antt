@@ -60,9 +60,12 @@ lenOf (row t n c) = n
 abbrev pub classOf : Row → Class
 classOf (row t n c) = c
 
+abbrev pub noType : Row
+noType = row [] 0 unknown
+
 -- the first row of that type
 abbrev pub rowOf : List Row → Bytes → Row
-rowOf [] t = row [] 0 unknown
+rowOf [] t = noType
 rowOf (row u n c ∷ rows) t = cond (sameBytes u t) (row u n c) (rowOf rows t)
 
 -- one test over the whole table says that the numbers lie within the records

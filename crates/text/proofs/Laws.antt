@@ -1,16 +1,18 @@
--- What one turn of each loop keeps: a test of every byte, a number read digit by digit, a number written from its last digit.
-use mathlib.Core.Path.{_≡_}
-use mathlib.Core.Bool.{Bool, true, false, _&&_}
-use mathlib.Core.List.{List, _∷_, _++_}
+-- What one turn of each loop keeps: a test of every byte, a number read digit by digit, a number written or compared from its last
+-- digit. And the parts of a record that may be too short.
+use mathlib.Core.Path.{_≡_, refl, sym, ap, _∙_}
+use mathlib.Core.Bool.{Bool, true, false, _&&_, and-true, and-false, and-assoc}
+use mathlib.Core.List.{List, [], _∷_, _++_}
 use Prim.Native.Nat.{ℕ, zero, suc, _+_, _-_, _*_, _/_, _%_, _^_, _<_, _≤_}
 use native.Mathlib.Nat.{pow-suc, pow-le-pow-right}
 use native.Mathlib.Numerals.{add-one}
 use native.Mathlib.Omega.{arith}
-use lib.Dec.{lit<}
-use lib.ListN.{length, take, drop, getD, set, drop-of-length-le}
-use lib.Seq.{length-take-le, append-snoc, drop-cons, drop-at, set-split}
-use Rattle.format.specs.Bytes.{every, decimal}
+use lib.Dec.{eqb, lit<}
+use lib.ListN.{length, take, drop, getD, set, drop-of-length-le, length-drop}
+use lib.Seq.{length-take-le, take-all, take-nil, take-suc, append-snoc, drop-cons, drop-at, set-split}
+use Rattle.format.specs.Bytes.{every, sameBytes, decimal}
 use Rattle.format.specs.Fields.{digit, numberFrom, numberOf}
+use Rattle.format.proofs.Decimal.{length-decimal}
 
 -- the bytes from i on decide whether every byte passes the test p
 abbrev pub RestDecides : (ℕ → Bool) → List ℕ → ℕ → Type 0
@@ -54,3 +56,53 @@ pub decimal-on : (n i : ℕ) (l : List ℕ) → 0 < i → i ≤ length l
 unfolding decimal
 decimal-on n zero l h k = absurd (omega arith)
 decimal-on n (suc w) l h k = let e : suc w - 1 ≡ w = omega arith in rw (e, append-snoc, drop-set)
+
+-- ---- two lists of one length are compared from their ends
+
+same-snoc : (xs ys : List ℕ) (x y : ℕ) → length xs ≡ length ys → sameBytes (xs ++ x ∷ []) (ys ++ y ∷ []) ≡ (sameBytes xs ys && eqb x y)
+same-snoc [] [] x y h = and-true (eqb x y)
+same-snoc [] (b ∷ ys) x y h = absurd (omega arith)
+same-snoc (a ∷ xs) [] x y h = absurd (omega arith)
+same-snoc (a ∷ xs) (b ∷ ys) x y h = rw (same-snoc xs ys x y (omega arith)) (sym (and-assoc (eqb a b) (sameBytes xs ys) (eqb x y)))
+
+swap : (a b c : Bool) → ((a && b) && c) ≡ (a && (c && b))
+swap false b c = refl
+swap true false c = sym (and-false c)
+swap true true c = sym (and-true c)
+
+-- where the bytes from i on were the last digits, the first i bytes are left to compare with the digits of rest
+abbrev pub Compares : ℕ → List ℕ → Bool → ℕ → ℕ → Type 0
+Compares n l same rest i = (i ≤ length l) × ((same && sameBytes (take i l) (decimal i rest)) ≡ sameBytes l (decimal (length l) n))
+
+module _ (n : ℕ) (l : List ℕ) where
+  pub same-start : Compares n l true n (length l)
+  same-start = (omega arith, ap (λ (x : List ℕ). sameBytes x (decimal (length l) n)) (take-all (length l) l (omega arith)))
+
+  pub same-on : (s : Bool) (rest i : ℕ) → 0 < i → Compares n l s rest i
+      → Compares n l (s && eqb (getD l (i - 1) 0) (48 + rest % 10)) (rest / 10) (i - 1)
+  unfolding decimal
+  same-on s rest zero h inv = absurd (omega arith)
+  same-on s rest (suc w) h inv =
+      let e : suc w - 1 ≡ w = omega arith in
+      let last = same-snoc (take w l) (decimal w (rest / 10)) (getD l w 0) (48 + rest % 10) (rw length-decimal (length-take-le w l (omega arith))) in
+      (omega arith, rw e (swap s (eqb (getD l w 0) (48 + rest % 10)) (sameBytes (take w l) (decimal w (rest / 10))) ∙ (rw (take-suc l w 0 (inv .0), last) at (inv .1))))
+
+  pub same-end : (s : Bool) (rest : ℕ) → Compares n l s rest 0 → s ≡ sameBytes l (decimal (length l) n)
+  unfolding decimal
+  same-end s rest inv = sym (and-true s) ∙ inv .1
+
+-- ---- a field of a record that may be too short for it
+
+module _ (l : List ℕ) (a size : ℕ) where
+  pub beyond : length l < a → take (length l - length l) (drop (length l) l) ≡ take size (drop a l)
+  beyond h =
+      let p : length l - length l ≡ 0 = omega arith in
+      rw (p, drop-of-length-le l {i = a} (omega arith)) (sym (take-nil size))
+
+  pub cut-short : length l - a < size → take (length l - a) (drop a l) ≡ take size (drop a l)
+  cut-short h =
+      let e : length (drop a l) ≡ length l - a = length-drop a l in
+      take-all (length l - a) (drop a l) (omega arith) ∙ sym (take-all size (drop a l) (omega arith))
+
+  pub within : take (a + size - a) (drop a l) ≡ take size (drop a l)
+  within = let p : a + size - a ≡ size = omega arith in rw p

@@ -2,7 +2,7 @@
 ghost use mathlib.Core.Path.{_≡_};
 ghost use Prim.Native.Nat.{_+_, _-_, _^_, _<_, _≤_};
 ghost use lib.ListN.{length};
-ghost use Rattle.format.specs.Bytes.{decimal};
+ghost use Rattle.format.specs.Bytes.{sameBytes, decimal};
 ghost use Rattle.format.specs.Fields.{fieldOf, isBlank, isDigit, areDigits, digit, numberOf};
 
 // The part of a record with this start, counted from 1, and this size: lent, not copied.
@@ -12,6 +12,23 @@ pub fn field(record: &[u8], start: usize, size: usize) -> &[u8]
     ensures { λ r. ⌜ length (now r) ≡ size ⌝ }
 {
     let a = start - 1;
+    let e = a + size;
+    &record[a..e]
+}
+
+// The same of a record of any length: what of the field lies beyond the record's end is missing.
+pub fn part(record: &[u8], start: usize, size: usize) -> &[u8]
+    requires { ⌜ 1 ≤ start ⌝ }
+    ensures { λ r. ⌜ now r ≡ fieldOf start size (now («record» .entry)) ⌝ }
+{
+    let n = record.len();
+    let a = start - 1;
+    if n < a {
+        return &record[n..n];
+    }
+    if n - a < size {
+        return &record[a..n];
+    }
     let e = a + size;
     &record[a..e]
 }
@@ -84,4 +101,19 @@ pub fn decimal(n: u64, out: &mut [u8])
         out[i] = 48 + (rest % 10) as u8;
         rest = rest / 10;
     }
+}
+
+// Whether decimal would write what stands there.
+pub fn is_decimal(n: u64, part: &[u8]) -> bool
+    ensures { λ r. ⌜ r ≡ sameBytes (now (part .entry)) (decimal (length (now (part .entry))) n) ⌝ }
+{
+    let mut same = true;
+    let mut rest = n;
+    let mut i = part.len();
+    while 0 < i {
+        i -= 1;
+        same = same & (part[i] == 48 + (rest % 10) as u8);
+        rest = rest / 10;
+    }
+    same
 }

@@ -1,0 +1,141 @@
+-- The row of a type: it is the first of the code's rows, and says the place, the length and the spots that the format has for the type.
+-- Assumes nothing.
+use Prim.Native.Nat.{ℕ, _<_, _≤_}
+use native.Mathlib.Omega.{arith}
+use mathlib.Core.Path.{_≡_, refl, sym, ap, _∙_}
+use mathlib.Core.Bool.{Bool, true, false, cond}
+use mathlib.Core.List.{List, [], _∷_, map}
+use lib.ListN.{length, getD, take, length-take}
+use lib.Seq.{take-all}
+use lib.Dec.{eqb}
+use borrow.Author.Tests.{eqb-true}
+use Rattle.format.specs.Bytes.{Bytes, every, sameBytes}
+use Rattle.format.specs.Table.{Class, known, Row as FormatRow, row, noType, rowOf, classOf, lenOf}
+use Rattle.format.specs.Cwr22.{rows22, cwr22}
+use Rattle.format.specs.Checks.{code, cls}
+use Rattle.format.specs.Stages.{stages, spots, begins}
+use Rattle.kinds.specs.Rows.{codeRow, kinds, rowFor, typeOf, noRow, firstOf, spotsOf}
+use Rattle.kinds.specs.declared.Row.{Row}
+use Rattle.kinds.proofs.Tests.{by-cases, both, same→eq}
+use Rattle.kinds.proofs.First.{has, distinct, only, short}
+use Rattle.kinds.proofs.Spots.{sameSpots, sameSpots→eq, stageListed, no-spots, begins-none}
+
+code-unknown : codeRow (noType) ≡ noRow
+unfolding spots begins stages
+code-unknown = refl
+
+-- ---- the first of the code's rows is the code's row of the format's first
+
+pub first-three : (r : Bytes) → 3 ≤ length r → getD r 0 0 ∷ getD r 1 0 ∷ getD r 2 0 ∷ [] ≡ take 3 r
+first-three [] h = absurd (omega arith)
+first-three (x ∷ []) h = absurd (omega arith)
+first-three (x ∷ y ∷ []) h = absurd (omega arith)
+first-three (x ∷ y ∷ z ∷ r) h = refl
+
+-- the code's row keeps three bytes of a type: no type has more or fewer
+three : FormatRow → Bool
+three (row u n c) = eqb (length u) 3
+
+type-kept : (u : Bytes) → length u ≡ 3 → (n : ℕ) (c : Class) → typeOf (codeRow (row u n c)) ≡ u
+type-kept u h n c = first-three u (omega arith) ∙ take-all 3 u (omega arith)
+
+first-is : (fs : List FormatRow) → every three fs ≡ true → (t : Bytes) → firstOf (map codeRow fs) t ≡ codeRow (rowOf fs t)
+unfolding three
+first-is [] q t = sym code-unknown
+first-is (row u n c ∷ fs) q t =
+    let p = both (eqb (length u) 3) (every three fs) q in
+    ap (λ (v : Bytes). cond (sameBytes v t) (codeRow (row u n c)) (firstOf (map codeRow fs) t)) (type-kept u (eqb-true (length u) 3 (p .0)) n c)
+    ∙ by-cases (sameBytes u t) (λ e. rw e) (λ e. rw e (first-is fs (p .1) t))
+
+first-row : (t : Bytes) → firstOf kinds t ≡ rowFor t
+unfolding kinds rowFor rows22 three
+first-row t = first-is rows22 refl t
+
+distinct-kinds : distinct kinds ≡ true
+unfolding kinds rows22 spots begins stages has distinct
+distinct-kinds = refl
+
+-- ---- the code's table, searched or hinted at
+
+module _ (l : List Row) (table : l ≡ kinds) (t : Bytes) where
+  pub searched : firstOf l t ≡ rowFor t
+  searched = ap (λ (k : List Row). firstOf k t) table ∙ first-row t
+
+  pub hinted : (k : ℕ) → k < length l → (d : Row) → sameBytes (typeOf (getD l k d)) t ≡ true → getD l k d ≡ rowFor t
+  hinted k inside d e = only t d l (ap distinct table ∙ distinct-kinds) k inside e ∙ searched
+
+pub short-row : (r : Bytes) → length r < 3 → noRow ≡ rowFor (take 3 r)
+short-row r h = sym (short kinds (take 3 r) (rw length-take (omega arith))) ∙ first-row (take 3 r)
+
+-- ---- place and length
+
+code-place : (f : FormatRow) → codeRow f .place ≡ code (classOf f)
+code-place (row t n c) = refl
+
+code-length : (f : FormatRow) → codeRow f .length ≡ lenOf f
+code-length (row t n c) = refl
+
+pub place-class : (r : Bytes) → rowFor (take 3 r) .place ≡ code (cls cwr22 r)
+unfolding rowFor rows22
+place-class r = code-place (rowOf rows22 (take 3 r))
+
+pub length-len : (r : Bytes) → rowFor (take 3 r) .length ≡ cwr22 .len (take 3 r)
+unfolding rowFor rows22
+length-len r = code-length (rowOf rows22 (take 3 r))
+
+-- ---- spots
+
+-- the columns hold all spots of a type: it has at most three, of one rank
+fits : FormatRow → Bool
+fits (row t n c) = sameSpots (spotsOf (codeRow (row t n c))) (spots t)
+
+all-fit : every fits rows22 ≡ true
+unfolding rows22 fits sameSpots spots begins stages
+all-fit = refl
+
+-- the row found for t is that of no type, or is of the type t and passes each test that all rows pass
+module _ (C : FormatRow → Type 0) (p : FormatRow → Bool) (t : Bytes) (found : (n : ℕ) (c : Class) → p (row t n c) ≡ true → C (row t n c)) where
+  row-cases : (fs : List FormatRow) → every p fs ≡ true → (rowOf fs t ≡ noType → C (noType)) → C (rowOf fs t)
+  row-cases [] q none = none refl
+  row-cases (row u n c ∷ fs) q none =
+      let pq = both (p (row u n c)) (every p fs) q in
+      by-cases (sameBytes u t)
+      (λ e. rw (e, same→eq u t e) (found n c (rw (same→eq u t e) at (pq .0))))
+      (λ e. rw e (row-cases fs (pq .1) (rw e at none)))
+
+-- each type of the stages is in the table, so a type that is not has no spot
+listed : Bytes → Bool
+listed t = known (classOf (rowOf rows22 t))
+
+stages-listed : every (stageListed listed) stages ≡ true
+unfolding stages stageListed listed rows22
+stages-listed = refl
+
+module _ (t : Bytes) (none : rowOf rows22 t ≡ noType) where
+  unlisted : listed t ≡ false
+  unfolding listed
+  unlisted = ap (λ (f : FormatRow). known (classOf f)) none
+
+  unlisted-spots : spots t ≡ []
+  unfolding spots
+  unlisted-spots = no-spots listed t unlisted 1 stages stages-listed
+
+  unlisted-begins : begins t ≡ false
+  unfolding begins
+  unlisted-begins = begins-none listed t unlisted stages stages-listed
+
+pub stage-spots : (t : Bytes) → spotsOf (rowFor t) ≡ spots t
+unfolding rowFor fits
+stage-spots t =
+    row-cases (λ (f : FormatRow). spotsOf (codeRow f) ≡ spots t) fits t
+    (λ n c e. sameSpots→eq (spotsOf (codeRow (row t n c))) (spots t) e)
+    rows22 all-fit
+    (λ none. ap spotsOf code-unknown ∙ sym (unlisted-spots t none))
+
+pub alone-begins : (t : Bytes) → rowFor t .alone ≡ begins t
+unfolding rowFor
+alone-begins t =
+    row-cases (λ (f : FormatRow). codeRow f .alone ≡ begins t) fits t
+    (λ n c e. refl)
+    rows22 all-fit
+    (λ none. ap (λ (r : Row). r .alone) code-unknown ∙ sym (unlisted-begins t none))

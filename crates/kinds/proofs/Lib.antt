@@ -1,0 +1,4 @@
+pub mod Tests
+pub mod First
+pub mod Spots
+pub mod Laws

@@ -1,0 +1,46 @@
+-- `kinds::row_of_type` meets its contract: a row of the type is its first row, whether hinted at or searched for.
+-- Assumes nothing.
+use mathlib.Core.Path.{sym, _∙_}
+use borrow.Author.Needs.{needs}
+use Rattle.kinds.proofs.Laws.{hinted, searched}
+use Rattle.kinds.proofs.row_of_type.Statement.{statement}
+use Rattle.kinds.proofs.row_of_type.Tie as tie
+
+table-requires : tie.Need-table-requires
+table-requires c κs = search needs
+
+hint-requires : tie.Need-hint-requires
+hint-requires c κs = search needs
+
+mul-hinted : tie.Need-mul-hinted
+mul-hinted c = search needs
+
+array-copy-out-hinted : tie.Need-array-copy-out-hinted
+array-copy-out-hinted c = search needs
+
+is-type-requires : tie.Need-is-type-requires
+is-type-requires c κs = search needs
+
+search-requires : tie.Need-search-requires
+search-requires c κs = search needs
+
+returns : tie.Need-returns
+returns c =
+    let at = c .before .before .before in
+    hinted _ (at .before .table .ensures) _ (at .hint .result) (search needs) _ (sym (c .before .is-type .ensures) ∙ c .if1 .taken)
+
+returns-2 : tie.Need-returns-2
+returns-2 c = c .search .ensures ∙ searched _ (c .before .before .before .before .before .table .ensures) _
+
+pub row-of-type-spec : {M : Type 1} → statement M
+row-of-type-spec =
+    tie.close
+    (tie.spec
+    table-requires
+    hint-requires
+    mul-hinted
+    array-copy-out-hinted
+    is-type-requires
+    search-requires
+    returns
+    returns-2)

@@ -1,0 +1,67 @@
+-- The code's table of record types, made of the format's rows and stages, so that no type is written down a second time.
+use Prim.Native.Nat.{ℕ}
+use mathlib.Core.Bool.{false, cond}
+use mathlib.Core.List.{List, [], _∷_, map}
+use lib.Dec.{ltb}
+use lib.ListN.{getD}
+use Rattle.format.specs.Bytes.{Bytes, sameBytes}
+use Rattle.format.specs.Table.{Row as FormatRow, row, rowOf, unknown}
+use Rattle.format.specs.Cwr22.{rows22}
+use Rattle.format.specs.Checks.{code}
+use Rattle.format.specs.Stages.{Spot, spot, spots, begins, when}
+use Rattle.kinds.specs.declared.Row.{Row}
+
+-- ---- a row of the format as the code has it
+
+abbrev pub stageOf : Spot → ℕ
+stageOf (spot stage rank) = stage
+
+abbrev pub rankOf : Spot → ℕ
+rankOf (spot stage rank) = rank
+
+-- the type's spot of index i; stages are counted from 1, so that stage 0 says that there is none
+abbrev pub spotAt : ℕ → Bytes → Spot
+spotAt i t = getD (spots t) i (spot 0 0)
+
+-- one rank serves for all spots of a type: no type has spots of two ranks
+abbrev pub codeRow : FormatRow → Row
+codeRow (row t n c) =
+    record {
+      a = getD t 0 0;
+      b = getD t 1 0;
+      c = getD t 2 0;
+      place = code c;
+      length = n;
+      first = stageOf (spotAt 0 t);
+      second = stageOf (spotAt 1 t);
+      third = stageOf (spotAt 2 t);
+      rank = rankOf (spotAt 0 t);
+      alone = begins t;
+    }
+
+unfoldable pub kinds : List Row
+kinds = map codeRow rows22
+
+-- the row of a type; where the format has no such type, that of `unknown`
+unfoldable pub rowFor : Bytes → Row
+rowFor t = codeRow (rowOf rows22 t)
+
+-- ---- a search among the code's rows
+
+abbrev pub typeOf : Row → Bytes
+typeOf r = r .a ∷ r .b ∷ r .c ∷ []
+
+abbrev pub noRow : Row
+noRow = record { a = 0; b = 0; c = 0; place = code unknown; length = 0; first = 0; second = 0; third = 0; rank = 0; alone = false }
+
+abbrev pub firstOf : List Row → Bytes → Row
+firstOf [] t = noRow
+firstOf (r ∷ rs) t = cond (sameBytes (typeOf r) t) r (firstOf rs t)
+
+-- ---- the spots that a row's columns say: a stage 0 is none
+
+abbrev pub column : ℕ → ℕ → List Spot → List Spot
+column stage rank rest = when (ltb 0 stage) (spot stage rank) rest
+
+abbrev pub spotsOf : Row → List Spot
+spotsOf r = column (r .first) (r .rank) (column (r .second) (r .rank) (column (r .third) (r .rank) []))
