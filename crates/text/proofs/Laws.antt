@@ -106,3 +106,21 @@ module _ (l : List ℕ) (a size : ℕ) where
 
   pub within : take (a + size - a) (drop a l) ≡ take size (drop a l)
   within = let p : a + size - a ≡ size = omega arith in rw p
+
+-- ---- three bytes
+
+module _ (a b c : ℕ) where
+  pub three-not : (l : List ℕ) → (length l ≡ 3 → ⊥) → false ≡ sameBytes l (a ∷ b ∷ c ∷ [])
+  three-not [] h = refl
+  three-not (x ∷ []) h = sym (and-false (eqb x a))
+  three-not (x ∷ y ∷ []) h = sym (rw (and-false (eqb y b), and-false (eqb x a)))
+  three-not (x ∷ y ∷ z ∷ []) h = absurd (h refl)
+  three-not (x ∷ y ∷ z ∷ w ∷ l) h = sym (rw (and-false (eqb z c), and-false (eqb y b), and-false (eqb x a)))
+
+  pub three-are : (l : List ℕ) → length l ≡ 3
+      → (eqb (getD l 0 0) a && eqb (getD l 1 0) b && eqb (getD l 2 0) c) ≡ sameBytes l (a ∷ b ∷ c ∷ [])
+  three-are [] h = absurd (omega arith)
+  three-are (x ∷ []) h = absurd (omega arith)
+  three-are (x ∷ y ∷ []) h = absurd (omega arith)
+  three-are (x ∷ y ∷ z ∷ []) h = rw (and-true (eqb z c)) (and-assoc (eqb x a) (eqb y b) (eqb z c))
+  three-are (x ∷ y ∷ z ∷ w ∷ l) h = absurd (omega arith)

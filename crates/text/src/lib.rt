@@ -1,5 +1,6 @@
 // The bytes of a field: the part of a record that a field is, what it may hold, and numbers read from it and written into it.
 ghost use mathlib.Core.Path.{_≡_};
+ghost use mathlib.Core.List.{[], _∷_};
 ghost use Prim.Native.Nat.{_+_, _-_, _^_, _<_, _≤_};
 ghost use lib.ListN.{length};
 ghost use Rattle.format.specs.Bytes.{sameBytes, decimal};
@@ -20,6 +21,7 @@ pub fn field(record: &[u8], start: usize, size: usize) -> &[u8]
 pub fn part(record: &[u8], start: usize, size: usize) -> &[u8]
     requires { ⌜ 1 ≤ start ⌝ }
     ensures { λ r. ⌜ now r ≡ fieldOf start size (now («record» .entry)) ⌝ }
+    ensures { λ r. ⌜ length (now r) ≤ size ⌝ }
 {
     let n = record.len();
     let a = start - 1;
@@ -31,6 +33,16 @@ pub fn part(record: &[u8], start: usize, size: usize) -> &[u8]
     }
     let e = a + size;
     &record[a..e]
+}
+
+// Whether a field is these three bytes and no more.
+pub fn is_three(field: &[u8], a: u8, b: u8, c: u8) -> bool
+    ensures { λ r. ⌜ r ≡ sameBytes (now (field .entry)) (a ∷ b ∷ c ∷ []) ⌝ }
+{
+    if field.len() != 3 {
+        return false;
+    }
+    (field[0] == a) & (field[1] == b) & (field[2] == c)
 }
 
 // Whether each byte is a space, as it is in an empty field.

@@ -1,6 +1,8 @@
 -- `text::part` meets its contract: the field lies beyond the record, is cut short by its end, or within it.
 use Prim.Native.Nat.{_-_}
+use native.Mathlib.Omega.{arith}
 use borrow.Author.Needs.{needs}
+use lib.ListN.{length-take, length-drop}
 use Rattle.format.specs.Fields.{fieldOf}
 use Rattle.text.proofs.Laws.{beyond, cut-short, within}
 use Rattle.text.proofs.part.Statement.{statement}
@@ -20,7 +22,9 @@ part-result-end c = search needs
 
 returns : tie.Need-returns
 unfolding fieldOf
-returns c = let g = c .before .before .args in beyond (g .record .now) (g .start - 1) (g .size) (c .before .if1 .taken)
+returns c =
+    let g = c .before .before .args in
+    (beyond (g .record .now) (g .start - 1) (g .size) (c .before .if1 .taken), simp (length-take, length-drop) (omega arith))
 
 part-result-start-2 : tie.Need-part-result-start-2
 part-result-start-2 c = search needs
@@ -30,7 +34,9 @@ part-result-end-2 c = search needs
 
 returns-2 : tie.Need-returns-2
 unfolding fieldOf
-returns-2 c = let g = c .before .before .before .args in cut-short (g .record .now) (g .start - 1) (g .size) (c .before .if2 .taken)
+returns-2 c =
+    let g = c .before .before .before .args in
+    (cut-short (g .record .now) (g .start - 1) (g .size) (c .before .if2 .taken), simp (length-take, length-drop) (omega arith))
 
 add-e : tie.Need-add-e
 add-e c = search needs
@@ -46,7 +52,9 @@ part-result-end-3 c = search needs
 
 returns-3 : tie.Need-returns-3
 unfolding fieldOf
-returns-3 c = let g = c .before .before .before .args in within (g .record .now) (g .start - 1) (g .size)
+returns-3 c =
+    let g = c .before .before .before .args in
+    (within (g .record .now) (g .start - 1) (g .size), simp (length-take, length-drop) (omega arith))
 
 pub part-spec : {M : Type 1} → statement M
 part-spec =
