@@ -24,15 +24,15 @@ pub fn part(record: &[u8], start: usize, size: usize) -> &[u8]
     ensures { λ r. ⌜ length (now r) ≤ size ⌝ }
 {
     let n = record.len();
-    let a = start - 1;
-    if n < a {
+    let from = start - 1;
+    if n < from {
         return &record[n..n];
     }
-    if n - a < size {
-        return &record[a..n];
+    if n - from < size {
+        return &record[from..n];
     }
-    let e = a + size;
-    &record[a..e]
+    let e = from + size;
+    &record[from..e]
 }
 
 // Whether a field is these three bytes and no more.

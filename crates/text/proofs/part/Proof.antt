@@ -8,8 +8,8 @@ use Rattle.text.proofs.Laws.{beyond, cut-short, within}
 use Rattle.text.proofs.part.Statement.{statement}
 use Rattle.text.proofs.part.Tie as tie
 
-sub-a : tie.Need-sub-a
-sub-a c = search needs
+sub-from : tie.Need-sub-from
+sub-from c = search needs
 
 sub-result : tie.Need-sub-result
 sub-result c = search needs
@@ -60,7 +60,7 @@ pub part-spec : {M : Type 1} → statement M
 part-spec =
     tie.close
     (tie.spec
-    sub-a
+    sub-from
     sub-result
     part-result-start
     part-result-end
