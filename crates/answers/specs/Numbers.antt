@@ -1,0 +1,18 @@
+-- The number and the place of each refusal.
+use Rattle.format.specs.Structure.{Answer as FormatAnswer, refused, passed, mostRecords}
+use Rattle.answers.specs.declared.Answer.{Answer}
+use Rattle.answers.specs.declared.Answer.the-variants.{Tolerance, Table, Long, Many, Line, Shape, Place, Number, Total, Version, Short, Passed}
+
+abbrev pub answerOf : Answer → FormatAnswer
+answerOf Tolerance = refused 1 0
+answerOf (Table i) = refused 2 i
+answerOf Long = refused 3 0
+answerOf (Line i) = refused 4 i
+answerOf Many = refused 5 mostRecords
+answerOf (Shape i) = refused 6 i
+answerOf (Place i) = refused 7 i
+answerOf (Number i) = refused 8 i
+answerOf (Total i) = refused 9 i
+answerOf Version = refused 10 0
+answerOf Short = refused 11 0
+answerOf (Passed g t r) = passed g t r

@@ -1,0 +1,27 @@
+-- `numbers::Counts::put` meets its contract: the numbers are those that the format expects, where it has them, and as long.
+-- Assumes nothing.
+use mathlib.Core.Path.{_∙_}
+use native.Mathlib.Omega.{arith}
+use borrow.Author.Needs.{needs}
+use Rattle.format.proofs.Slots.{expected-length}
+use Rattle.numbers.specs.Carried.{over}
+use Rattle.numbers.proofs.Counts.put.Statement.{statement}
+use Rattle.numbers.proofs.Counts.put.Tie as tie
+
+numbers-for-requires : tie.Need-numbers-for-requires
+numbers-for-requires c κs = search needs
+
+write-into-requires : tie.Need-write-into-requires
+write-into-requires c κs = let r = c .before .numbers-for .ensures in omega (arith, r .place, r .wide)
+
+same-length : tie.Need-same-length
+same-length c = search needs
+
+returns : tie.Need-returns
+unfolding over
+returns c =
+    let r = c .before .before .before .before .numbers-for .ensures in
+    c .before .before .write-into .ensures ∙ rw (r .place, r .right, expected-length)
+
+pub put-spec : {M : Type 1} → statement M
+put-spec = tie.close (tie.spec numbers-for-requires write-into-requires same-length returns)

@@ -1,0 +1,67 @@
+-- `numbers::Counts::with` meets its contract: each arm knows its place, and changes what the format changes there.
+-- Assumes nothing.
+use mathlib.Core.Path.{_≡_, refl, _∙_}
+use native.Mathlib.Omega.{arith}
+use borrow.Author.Needs.{needs}
+use Rattle.format.specs.Checks.{one, count}
+use Rattle.numbers.specs.Tally.{tally}
+use Rattle.numbers.proofs.Places.{other, alike, counted}
+use Rattle.numbers.proofs.Counts.with.Statement.{statement}
+use Rattle.numbers.proofs.Counts.with.Tie as tie
+
+add-self : tie.Need-add-self
+add-self c = search needs
+
+add-self-2 : tie.Need-add-self-2
+add-self-2 c = search needs
+
+add-self-3 : tie.Need-add-self-3
+add-self-3 c = search needs
+
+add-self-4 : tie.Need-add-self-4
+add-self-4 c = search needs
+
+add-self-5 : tie.Need-add-self-5
+add-self-5 c = search needs
+
+add-self-6 : tie.Need-add-self-6
+add-self-6 c = search needs
+
+add-self-7 : tie.Need-add-self-7
+add-self-7 c = search needs
+
+returns : tie.Need-returns
+returns c = (counted _ _ _ 1 (c .before .match .keys1) (omega arith), omega arith)
+
+returns-2 : tie.Need-returns-2
+returns-2 c = (counted _ _ _ 2 (c .before .before .before .match .keys2) (omega arith), omega arith)
+
+returns-3 : tie.Need-returns-3
+returns-3 c = (counted _ _ _ 3 (c .before .before .match .keys3) (omega arith), omega arith)
+
+returns-4 : tie.Need-returns-4
+returns-4 c = (counted _ _ _ 4 (c .match .keys4) (omega arith), omega arith)
+
+returns-5 : tie.Need-returns-5
+returns-5 c =
+    let g = c .before .before .args in
+    let n = tally (g .self) in
+    let ne = c .match .rest in
+    (alike _ (one n) (omega arith) ∙ other (λ k. one n ≡ count n k) (g .place) (ne .0 .0 .0 .1) (ne .0 .0 .1) (ne .0 .1) (ne .1) refl (λ e. refl) refl, omega arith)
+
+pub with-spec : {M : Type 1} → statement M
+with-spec =
+    tie.close
+    (tie.spec
+    add-self
+    add-self-2
+    add-self-3
+    add-self-4
+    add-self-5
+    add-self-6
+    add-self-7
+    returns
+    returns-2
+    returns-3
+    returns-4
+    returns-5)

@@ -1,0 +1,82 @@
+-- `numbers::Numbers::stand_in` meets its contract: GRT and TRL have the group before the pair that headers and details have.
+-- Assumes nothing.
+use native.Mathlib.Omega.{arith}
+use borrow.Author.Needs.{needs}
+use Rattle.format.specs.Fields.{fieldOf}
+use Rattle.numbers.specs.Carried.{pair}
+use Rattle.numbers.proofs.Laws.{compared}
+use Rattle.numbers.proofs.Numbers.stand_in.Statement.{statement}
+use Rattle.numbers.proofs.Numbers.stand_in.Tie as tie
+
+enum-told : tie.Need-enum-told
+enum-told c = search needs
+
+enum-known-self : tie.Need-enum-known-self
+enum-known-self c = search needs
+
+stands-requires : tie.Need-stands-requires
+stands-requires c κs =
+    let at = c .before in
+    let h = rw (at .self .given .1) at (at .before .before .before .pre) in
+    omega (arith, h)
+
+enum-known-self-2 : tie.Need-enum-known-self-2
+enum-known-self-2 c = search needs
+
+pair-stands-requires : tie.Need-pair-stands-requires
+pair-stands-requires c κs =
+    let at = c .before in
+    let h = rw (at .self2 .given .1) at (at .before .before .before .pre) in
+    omega (arith, h)
+
+enum-known-self-3 : tie.Need-enum-known-self-3
+enum-known-self-3 c = search needs
+
+stands-requires-2 : tie.Need-stands-requires-2
+stands-requires-2 c κs =
+    let at = c .before in
+    let h = rw (at .self3 .given .1) at (at .before .before .before .pre) in
+    omega (arith, h)
+
+pair-stands-requires-2 : tie.Need-pair-stands-requires-2
+pair-stands-requires-2 c κs =
+    let at = c .before .before in
+    let h = rw (at .self3 .given .1) at (at .before .before .before .pre) in
+    omega (arith, h)
+
+returns : tie.Need-returns
+unfolding fieldOf
+returns c = rw (c .enum-told .given .1)
+
+returns-2 : tie.Need-returns-2
+returns-2 c = rw (c .before .before .self .given .1) (c .stands .ensures)
+
+returns-3 : tie.Need-returns-3
+returns-3 c = rw (c .before .before .self2 .given .1) (c .pair-stands .ensures)
+
+returns-4 : tie.Need-returns-4
+returns-4 c =
+    let at = c .before .before .before in
+    let g = at .self3 .given .0 in
+    let entry = at .before .before .before in
+    let h = rw (at .self3 .given .1) at (entry .pre) in
+    rw (at .self3 .given .1)
+    (compared (entry .args .record .now) 4 5 (g .0) (pair (g .1 .0) (g .1 .1 .0)) 16 (omega arith) (omega (arith, h)) _ _
+    (c .before .stands2 .ensures) (c .pair-stands2 .ensures))
+
+pub stand-in-spec : {M : Type 1} → statement M
+stand-in-spec =
+    tie.close
+    (tie.spec
+    enum-told
+    enum-known-self
+    stands-requires
+    enum-known-self-2
+    pair-stands-requires
+    enum-known-self-3
+    stands-requires-2
+    pair-stands-requires-2
+    returns
+    returns-2
+    returns-3
+    returns-4)

@@ -1,0 +1,94 @@
+-- `numbers::Numbers::write_into` meets its contract: GRT and TRL have the group before the pair that headers and details have.
+-- Assumes nothing.
+use native.Mathlib.Omega.{arith}
+use borrow.Author.Needs.{needs}
+use Rattle.numbers.specs.Carried.{pair}
+use Rattle.numbers.proofs.Laws.{over-nothing, written}
+use Rattle.numbers.proofs.Numbers.write_into.Statement.{statement}
+use Rattle.numbers.proofs.Numbers.write_into.Tie as tie
+
+enum-told : tie.Need-enum-told
+enum-told c = search needs
+
+enum-known-self : tie.Need-enum-known-self
+enum-known-self c = search needs
+
+write-requires : tie.Need-write-requires
+write-requires c κs =
+    let at = c .before .before in
+    let h = rw (at .self .given .1) at (at .before .before .before .pre) in
+    omega (arith, h)
+
+enum-known-self-2 : tie.Need-enum-known-self-2
+enum-known-self-2 c = search needs
+
+write-pair-requires : tie.Need-write-pair-requires
+write-pair-requires c κs =
+    let at = c .before .before in
+    let h = rw (at .self2 .given .1) at (at .before .before .before .pre) in
+    omega (arith, h)
+
+enum-known-self-3 : tie.Need-enum-known-self-3
+enum-known-self-3 c = search needs
+
+write-requires-2 : tie.Need-write-requires-2
+write-requires-2 c κs =
+    let at = c .before .before in
+    let h = rw (at .self3 .given .1) at (at .before .before .before .pre) in
+    omega (arith, h)
+
+write-pair-requires-2 : tie.Need-write-pair-requires-2
+write-pair-requires-2 c κs =
+    let at = c .before .before .before .before .before .before in
+    let h = rw (at .self3 .given .1) at (at .before .before .before .pre) in
+    omega (arith, h)
+
+returns : tie.Need-returns
+returns c = rw (c .enum-told .given .1) (over-nothing 4 _)
+
+same-length : tie.Need-same-length
+same-length c = search needs
+
+returns-2 : tie.Need-returns-2
+returns-2 c = rw (c .before .before .before .before .before .self .given .1) (c .before .before .write .ensures)
+
+same-length-2 : tie.Need-same-length-2
+same-length-2 c = search needs
+
+returns-3 : tie.Need-returns-3
+returns-3 c = rw (c .before .before .before .before .before .self2 .given .1) (c .before .before .write-pair .ensures)
+
+same-length-3 : tie.Need-same-length-3
+same-length-3 c = search needs
+
+returns-4 : tie.Need-returns-4
+returns-4 c =
+    let second = c .before .before in
+    let first = second .before .before .before .before in
+    let at = first .before .before .before in
+    let g = at .self3 .given .0 in
+    let entry = at .before .before .before in
+    let h = rw (at .self3 .given .1) at (entry .pre) in
+    rw (at .self3 .given .1)
+    (written (entry .args .out .now) 4 5 (g .0) (pair (g .1 .0) (g .1 .1 .0)) 16 (omega arith) (omega (arith, h)) _ _
+    (first .write2 .ensures) (second .write-pair2 .ensures))
+
+pub write-into-spec : {M : Type 1} → statement M
+write-into-spec =
+    tie.close
+    (tie.spec
+    enum-told
+    enum-known-self
+    write-requires
+    enum-known-self-2
+    write-pair-requires
+    enum-known-self-3
+    write-requires-2
+    write-pair-requires-2
+    returns
+    same-length
+    returns-2
+    same-length-2
+    returns-3
+    same-length-3
+    returns-4)

@@ -1,0 +1,201 @@
+// What a walk over the records of a file counts, and the numbers that each record has to carry: compared, and written.
+use kinds::DETAIL;
+use kinds::GRH;
+use kinds::GRT;
+use kinds::HEAD;
+use kinds::TRL;
+ghost use mathlib.Core.Path.{_≡_};
+ghost use mathlib.Core.List.{_++_};
+ghost use Prim.Native.Nat.{pred, _+_, _-_, _≤_};
+ghost use lib.ListN.{length, take, drop};
+ghost use Rattle.format.specs.Bytes.{sameBytes, decimal};
+ghost use Rattle.format.specs.Fields.{fieldOf};
+ghost use Rattle.format.specs.Table.{at, width};
+ghost use Rattle.format.specs.Checks.{zeros, count, classAt, slot, expected};
+ghost use Rattle.numbers.specs.Tally.{tally, Within, Room};
+ghost use Rattle.numbers.specs.Carried.{pair, digitsOf, startOf, sizeOf, over, Carried};
+
+// What was counted before a record, as the format's `Counts`.
+pub struct Counts {
+    // Groups begun, and transactions begun in all of them.
+    pub groups: u64,
+    pub transactions: u64,
+    // Of the group: transactions begun, records.
+    pub in_group: u64,
+    pub group_records: u64,
+    // Records of the transaction.
+    pub in_transaction: u64,
+    // All records.
+    pub records: u64,
+}
+
+// The numbers that a record carries in its number positions.
+pub enum Numbers {
+    // HDR, and a record of no type, has none.
+    Nothing,
+    // GRH: the group.
+    Group(u64),
+    // A header or detail: the transaction in its group, the record in its transaction.
+    Prefix(u64, u64),
+    // GRT and TRL: the group or how many there are, transactions, records.
+    Totals(u64, u64, u64),
+}
+
+impl Counts {
+    pub fn zero() -> Counts
+        ensures { λ r. ⌜ tally r ≡ zeros ⌝ }
+        ensures { λ r. ⌜ Room r × (r .records ≡ 0) ⌝ }
+    {
+        Counts {
+            groups: 0,
+            transactions: 0,
+            in_group: 0,
+            group_records: 0,
+            in_transaction: 0,
+            records: 0,
+        }
+    }
+
+    // With one record more, of that place.
+    pub fn with(mut self, place: u8) -> Counts
+        requires { ⌜ Room self ⌝ }
+        ensures { λ r. ⌜ tally r ≡ count (tally self) (classAt place) ⌝ }
+        ensures { λ r. ⌜ Within r × (r .records ≡ self .records + 1) ⌝ }
+    {
+        self.records += 1;
+        match place {
+            GRH => {
+                self.groups += 1;
+                self.in_group = 0; // so that each group numbers its transactions anew
+                self.group_records = 1;
+                self.in_transaction = 0;
+                self
+            }
+            HEAD => {
+                self.transactions += 1;
+                self.in_group += 1;
+                self.group_records += 1;
+                self.in_transaction = 1;
+                self
+            }
+            DETAIL => {
+                self.group_records += 1;
+                self.in_transaction += 1;
+                self
+            }
+            GRT => {
+                self.in_group = 0;
+                self.group_records = 0;
+                self.in_transaction = 0;
+                self
+            }
+            _ => self,
+        }
+    }
+
+    // The numbers that the next record has to carry, if it is of that place. Transactions are numbered from 0: a header has how many
+    // began before it, and a detail one less, since its header is counted. GRT and TRL count themselves among the records.
+    pub fn numbers_for(self, place: u8) -> Numbers
+        requires { ⌜ Room self ⌝ }
+        ensures { λ r. ⌜ Carried (tally self) (classAt place) r ⌝ }
+    {
+        match place {
+            GRH => Numbers::Group(self.groups + 1),
+            HEAD => Numbers::Prefix(self.in_group, 0),
+            DETAIL => Numbers::Prefix(before(self.in_group), self.in_transaction),
+            GRT => Numbers::Totals(self.groups, self.in_group, self.group_records + 1),
+            TRL => Numbers::Totals(self.groups, self.transactions, self.records + 1),
+            _ => Numbers::Nothing,
+        }
+    }
+
+    // Whether the next record, of that place, carries its numbers.
+    pub fn holds(self, place: u8, record: &[u8]) -> bool
+        requires { ⌜ Room self ⌝ }
+        requires { ⌜ at (classAt place) + width (classAt place) ≤ length (now «record») ⌝ }
+        ensures { λ r. ⌜ r ≡ sameBytes (slot (classAt place) (now («record» .entry))) (expected (tally self) (classAt place)) ⌝ }
+    {
+        self.numbers_for(place).stand_in(record)
+    }
+
+    // Writes its numbers into the next record, of that place, which stands in out.
+    pub fn put(self, place: u8, out: &mut [u8])
+        requires { ⌜ Room self ⌝ }
+        requires { ⌜ at (classAt place) + width (classAt place) ≤ length (now out) ⌝ }
+        ensures { λ _. ⌜ now (out .exit) ≡ take (at (classAt place)) (now (out .entry)) ++ expected (tally self) (classAt place) ++ drop (at (classAt place) + width (classAt place)) (now (out .entry)) ⌝ }
+    {
+        self.numbers_for(place).write_into(out)
+    }
+}
+
+impl Numbers {
+    // Whether they stand in the record.
+    fn stand_in(self, record: &[u8]) -> bool
+        requires { ⌜ startOf self - 1 + sizeOf self ≤ length (now «record») ⌝ }
+        ensures { λ r. ⌜ r ≡ sameBytes (fieldOf (startOf self) (sizeOf self) (now («record» .entry))) (digitsOf self) ⌝ }
+    {
+        match self {
+            Numbers::Nothing => true,
+            Numbers::Group(g) => stands(g, record, 7, 5),
+            Numbers::Prefix(t, r) => pair_stands(t, r, record, 4),
+            Numbers::Totals(g, t, r) => stands(g, record, 4, 5) & pair_stands(t, r, record, 9),
+        }
+    }
+
+    // Writes them into the record that stands in out.
+    fn write_into(self, out: &mut [u8])
+        requires { ⌜ startOf self - 1 + sizeOf self ≤ length (now out) ⌝ }
+        ensures { λ _. ⌜ now (out .exit) ≡ over (startOf self) (digitsOf self) (now (out .entry)) ⌝ }
+    {
+        match self {
+            Numbers::Nothing => {}
+            Numbers::Group(g) => write(g, out, 7, 5),
+            Numbers::Prefix(t, r) => write_pair(t, r, out, 4),
+            Numbers::Totals(g, t, r) => {
+                write(g, out, 4, 5);
+                write_pair(t, r, out, 9)
+            }
+        }
+    }
+}
+
+// One less; 0 of 0, where a detail stands before any header.
+fn before(n: u64) -> u64
+    ensures { λ r. ⌜ r ≡ pred n ⌝ }
+{
+    if n == 0 { 0 } else { n - 1 }
+}
+
+// Whether the field with this start, counted from 1, and this size has the digits of n.
+fn stands(n: u64, record: &[u8], start: usize, size: usize) -> bool
+    requires { ⌜ (1 ≤ start) × (start - 1 + size ≤ length (now «record»)) ⌝ }
+    ensures { λ r. ⌜ r ≡ sameBytes (fieldOf start size (now («record» .entry))) (decimal size n) ⌝ }
+{
+    text::is_decimal(n, text::field(record, start, size))
+}
+
+// Writes the digits of n over that field.
+fn write(n: u64, out: &mut [u8], start: usize, size: usize)
+    requires { ⌜ (1 ≤ start) × (start - 1 + size ≤ length (now out)) ⌝ }
+    ensures { λ _. ⌜ now (out .exit) ≡ over start (decimal size n) (now (out .entry)) ⌝ }
+{
+    let a = start - 1;
+    let e = a + size;
+    text::decimal(n, &mut out[a..e]);
+}
+
+// Transactions and records stand beside one another, in eight digits each: both compared, and both written.
+fn pair_stands(t: u64, r: u64, record: &[u8], start: usize) -> bool
+    requires { ⌜ (1 ≤ start) × (start - 1 + (8 + 8) ≤ length (now «record»)) ⌝ }
+    ensures { λ s. ⌜ s ≡ sameBytes (fieldOf start (8 + 8) (now («record» .entry))) (pair t r) ⌝ }
+{
+    stands(t, record, start, 8) & stands(r, record, start + 8, 8)
+}
+
+fn write_pair(t: u64, r: u64, out: &mut [u8], start: usize)
+    requires { ⌜ (1 ≤ start) × (start - 1 + (8 + 8) ≤ length (now out)) ⌝ }
+    ensures { λ _. ⌜ now (out .exit) ≡ over start (pair t r) (now (out .entry)) ⌝ }
+{
+    write(t, out, start, 8);
+    write(r, out, start + 8, 8);
+}
