@@ -3,16 +3,16 @@ use Prim.Native.Nat.{ℕ, _≤_}
 use native.Mathlib.Omega.{arith}
 use mathlib.Core.Path.{_≡_, refl, ap, _∙_}
 use mathlib.Core.Logic.{_≢_}
-use mathlib.Core.Bool.{Bool, true, false, cond}
+use mathlib.Core.Bool.{Bool, true, false}
 use mathlib.Core.Option.{Option, none, some}
-use mathlib.Core.List.{List, [], _∷_}
+use mathlib.Core.List.{List}
 use lib.ListN.{length}
 use lib.Dec.{T, leb, leb→le, le→leb}
 use Rattle.format.specs.Bytes.{Bytes}
 use Rattle.format.specs.Table.{Table}
 use Rattle.format.specs.Lines.{Lines, good, bad, lines}
-use Rattle.format.specs.Checks.{Check, faultOf, Counts, zeros, countFrom, check6, check7, check8, check9}
-use Rattle.format.specs.Structure.{Answer, refused, passed, refusal, unless, mostBytes, mostRecords, firstOf, countsOf, ofLines, ofFile, versioned, judged, structure}
+use Rattle.format.specs.Checks.{Check, faultOf, zeros, countFrom, check6, check7, check8, check9}
+use Rattle.format.specs.Structure.{Answer, refused, passed, refusal, unless, mostBytes, mostRecords, firstOf, countsOf, ofLines, ofFile, judged, structure}
 use Rattle.format.specs.Numbering.{placed, numbering}
 use Rattle.format.specs.Claims.{Limits}
 use Rattle.format.proofs.Logic.{is-true}

@@ -4,10 +4,10 @@ use native.Mathlib.Omega.{arith}
 use mathlib.Core.Path.{_≡_, sym, ap, _∙_, subst, refl}
 use mathlib.Core.Logic.{_↔_}
 use mathlib.Core.List.{List, [], _∷_, map}
-use lib.ListN.{length, take, drop, take-append-drop}
+use lib.ListN.{length, take-append-drop}
 use lib.Dec.{T}
 use Rattle.format.specs.Bytes.{Bytes, All, Text, unlines, pairs}
-use Rattle.format.specs.Doc.{Doc, write, written, transactionsOf, recordsAll}
+use Rattle.format.specs.Doc.{Doc, write, written}
 use Rattle.format.specs.Table.{hdr, unknown, Table}
 use Rattle.format.specs.WellFormed.{Item, item, Held, Loose, items, WellFormed}
 use Rattle.format.specs.Lines.{good, lines}

@@ -1,7 +1,7 @@
 -- Worked examples in CWR 2.2: the definitions compute, and the theorems are not empty. Assumes nothing.
 use Prim.Native.Nat.{ℕ, zero, suc}
 use mathlib.Core.Path.{_≡_, refl}
-use mathlib.Core.List.{List, [], _∷_, _++_, map}
+use mathlib.Core.List.{[], _∷_, _++_, map}
 use Rattle.format.specs.Ascii.{ascii}
 use Rattle.format.specs.Bytes.{Bytes, isText, decimal, behind, put, unlines}
 use Rattle.format.specs.Fields.{fieldOf, areDigits, numberOf}

@@ -2,9 +2,9 @@
 use Prim.Native.Nat.{ℕ}
 use mathlib.Core.Path.{_≡_, refl, sym, ap, _∙_, subst}
 use mathlib.Core.Logic.{_↔_}
-use mathlib.Core.List.{List, map}
+use mathlib.Core.List.{List}
 use lib.ListN.{length, length-map}
-use Rattle.format.specs.Bytes.{Bytes, unlines, pairs}
+use Rattle.format.specs.Bytes.{Bytes, pairs}
 use Rattle.format.specs.Doc.{Doc, write, written}
 use Rattle.format.specs.Table.{Table}
 use Rattle.format.specs.WellFormed.{Loose, items, WellFormed}

@@ -2,7 +2,7 @@
 use Prim.Native.Nat.{ℕ, suc, _+_}
 use native.Mathlib.Omega.{arith}
 use mathlib.Core.Path.{_≡_, refl, sym, ap, _∙_, subst}
-use mathlib.Core.Bool.{Bool, true, false, _||_, not, cond}
+use mathlib.Core.Bool.{Bool, true, false, not, cond}
 use mathlib.Core.Option.{Option, none, some}
 use mathlib.Core.List.{List, [], _∷_, map}
 use lib.ListN.{length, take, length-append}
@@ -10,7 +10,7 @@ use lib.Dec.{T}
 use Rattle.format.specs.Bytes.{Bytes, All, Text, behind, unlines}
 use Rattle.format.specs.Table.{Class, trl, at, width, Table}
 use Rattle.format.specs.WellFormed.{Item, item, Right, Held, Loose}
-use Rattle.format.specs.Checks.{Check, faultFrom, Counts, count, expected, is, mayFollow, closes, slot, cut, cls, typed, numbered, check6, check7, check8, check9, ok8, ok9, counting, countFrom}
+use Rattle.format.specs.Checks.{Check, faultFrom, Counts, count, expected, is, mayFollow, closes, slot, cls, typed, numbered, check6, check7, check8, check9, ok8, ok9, counting, countFrom}
 use Rattle.format.specs.Numbering.{held, number}
 use Rattle.format.proofs.Logic.{or-right, either-way, sameBytes→eq, sameBytes-refl}
 use Rattle.format.proofs.Slots.{expected-length, expected-text, put-cls, put-slot, put-held, put-length, put-typed, put-text, held-right, slot-text, slot-length, slot-put}

@@ -2,14 +2,13 @@
 use Prim.Native.Nat.{ℕ, suc, pred, _+_, _≤_}
 use native.Mathlib.Omega.{arith}
 use mathlib.Core.Path.{_≡_, refl, ap, _∙_}
-use mathlib.Core.Bool.{Bool, _&&_}
-use mathlib.Core.List.{List, [], _∷_, _++_, append-assoc, append-nil}
+use mathlib.Core.List.{[], _++_, append-assoc, append-nil}
 use lib.ListN.{length, take, drop, length-append, length-drop, take-append-drop}
 use lib.Seq.{length-take-le, take-at, drop-at, take-take, take-append-le, take-add}
 use lib.Dec.{T, eqb, eqb→eq, eqb-refl, lit≤}
 use Rattle.format.specs.Bytes.{Bytes, isText, Text, behind, decimal}
 use Rattle.format.specs.Table.{Class, hdr, grh, head, detail, grt, trl, unknown, known, at, width, Table}
-use Rattle.format.specs.WellFormed.{Item, item, Right, Held}
+use Rattle.format.specs.WellFormed.{item, Right, Held}
 use Rattle.format.specs.Checks.{Counts, expected, slot, cut, cls, typed}
 use Rattle.format.specs.Numbering.{held}
 use Rattle.format.proofs.Logic.{both, left, right, All-append, All-take, All-drop}

@@ -1,7 +1,7 @@
 -- The list of held records against the tree of groups and transactions: places are right exactly on the lists of trees, and the tree
 -- is found again. Assumes nothing.
 use mathlib.Core.Path.{_≡_, refl, sym, ap, _∙_, subst}
-use mathlib.Core.Bool.{Bool, true, false, _||_}
+use mathlib.Core.Bool.{_||_}
 use mathlib.Core.List.{List, [], _∷_, _++_, map, append-assoc}
 use lib.Dec.{T, eqb→eq}
 use Rattle.format.specs.Bytes.{Bytes, All}

@@ -7,7 +7,7 @@ use mathlib.Core.List.{List, [], _∷_, _++_, map}
 use lib.ListN.{length}
 use Rattle.format.specs.Bytes.{Bytes, put}
 use Rattle.format.specs.Doc.{Doc, Group, Transaction, recordsT, transactionsOf, recordsOf, recordsAll, prefixed, details, transactions, opened, groups, written}
-use Rattle.format.specs.Table.{head, detail, grt, trl, start}
+use Rattle.format.specs.Table.{detail, grt, trl, start}
 use Rattle.format.specs.WellFormed.{Item, item, itemsT, itemsG, items}
 use Rattle.format.specs.Checks.{Counts, zeros, count, expected}
 use Rattle.format.specs.Numbering.{number}

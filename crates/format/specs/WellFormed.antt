@@ -1,5 +1,5 @@
 -- Which contents are right: lists never empty, and each record right by 4, 6, 7 and 10, held without its numbers.
-use Prim.Native.Nat.{ℕ, _+_}
+use Prim.Native.Nat.{_+_}
 use mathlib.Core.Path.{_≡_}
 use mathlib.Core.List.{List, [], _∷_, _++_, map}
 use lib.ListN.{take, length}

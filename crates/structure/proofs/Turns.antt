@@ -1,0 +1,166 @@
+-- The walk's turns: a right record more, and one record more in search of faults. Assumes nothing.
+use Prim.Native.Nat.{ℕ, _+_, _-_, _≤_, _<_}
+use native.Mathlib.Nat.{add-assoc}
+use native.Mathlib.Omega.{arith}
+use mathlib.Core.Path.{_≡_, sym, ap, _∙_}
+use mathlib.Core.Bool.{Bool, true, not, _&&_, _||_, and-eq-true-iff}
+use mathlib.Core.Option.{Option}
+use mathlib.Core.List.{List, [], _∷_}
+use lib.ListN.{length, take, drop, getD, length-drop}
+use lib.Seq.{length-take-le, take-take, drop-drop}
+use lib.Dec.{eqb}
+use borrow.Author.Tests.{eq-eqb, ne-eqb}
+use Rattle.format.specs.Bytes.{Bytes, every, isText, sameBytes, beginsPair}
+use Rattle.format.specs.Table.{Class}
+use Rattle.format.specs.Cwr22.{cwr22}
+use Rattle.format.specs.Checks.{Counts, zeros, count, classAt, cls, typed, mayFollow, slot, expected, closes, numbered, ok8, ok9}
+use Rattle.format.specs.Structure.{unless}
+use Rattle.kinds.specs.Rows.{kinds, rowFor, typeOf}
+use Rattle.kinds.specs.declared.Row.{Row}
+use Rattle.kinds.proofs.Laws.{first-three, hinted}
+use Rattle.lines.proofs.Laws.{every-text, pair-behind}
+use Rattle.numbers.specs.Tally.{tally, Within}
+use Rattle.numbers.specs.declared.Counts.{Counts as CodeCounts}
+use Rattle.structure.specs.Rest.{orElse, Faults, restFrom, moreFaults}
+use Rattle.structure.specs.Walk.{Roomy, Bounded, Stood, RightAt, Next}
+use Rattle.structure.specs.declared.Stand.{Stand}
+use Rattle.structure.proofs.Rest.{rest-turn}
+use Rattle.structure.proofs.Rows.{row-class, row-code, row-typed, in-table, row-roomy}
+use Rattle.structure.proofs.Faults.{or-swap}
+
+-- ---- a right record more
+
+module _ (t : Bytes) (row : Row) (its : row ≡ rowFor (take 3 t)) where
+  -- the row is that of the record which the row's length cuts off
+  cut-row : 3 ≤ row .length → row ≡ rowFor (take 3 (take (row .length) t))
+  cut-row h = its ∙ sym (ap rowFor (take-take 3 (row .length) t h))
+
+  cut-typed : row .place ≤ 5 → 3 ≤ row .length → row .length ≤ length t → typed cwr22 (take (row .length) t) ≡ true
+  cut-typed p h k =
+      let r = take (row .length) t in
+      let e : length r ≡ row .length = length-take-le (row .length) t k in
+      row-typed r row (cut-row h) ∙ rw (ne-eqb (row .place) 6 (omega arith), eq-eqb (length r) (row .length) e)
+
+  module _ (asked version : Bool) (p : Class) (n : Counts) where
+    jump : row .place ≤ 5 → 3 ≤ row .length → row .length ≤ length t
+        → every isText (take (row .length) t) ≡ true → beginsPair (drop (row .length) t) ≡ true
+        → mayFollow p (classAt (row .place)) ≡ true
+        → (not asked || sameBytes (slot (classAt (row .place)) (take (row .length) t)) (expected n (classAt (row .place)))) ≡ true
+        → restFrom cwr22 asked version p n t
+        ≡ restFrom cwr22 asked version (classAt (row .place)) (count n (classAt (row .place))) (drop (row .length + 2) t)
+    jump q h k x y s m =
+        let r = take (row .length) t in
+        let c : classAt (row .place) ≡ cls cwr22 r = row-class r row (cut-row h) in
+        ap (restFrom cwr22 asked version p n) (pair-behind (row .length) t y)
+        ∙ rest-turn cwr22 asked version p n r (drop (row .length + 2) t) (every-text r x) (cut-typed q h k) (rw c at s) (rw c at m)
+        ∙ rw (← c)
+
+module _ (f : Bytes) (asked : Bool) (s : Stand) (row : Row) (next : Stand) where
+  -- the stand behind the record is bounded as the one before it was
+  pub bounded-on : Bounded f s → row .place ≤ 6 → s .at + row .length + 2 ≤ length f → Next s (row .length) (row .place) next → Bounded f next
+  bounded-on b h k x =
+      record {
+        inside = rw (x .at) k;
+        place = rw (x .place) h;
+        within = x .within;
+        few = omega (arith, b .few, x .at, x .records);
+      }
+
+  pub stood-on : Stood f asked s → RightAt f asked s row → Roomy row → row ≡ rowFor (take 3 (drop (s .at) f))
+      → Next s (row .length) (row .place) next → Stood f asked next
+  stood-on d r m its x =
+      record {
+        bounded = bounded-on (d .bounded) (omega (arith, m .place)) (r .fits) x;
+        rest = λ version. rw (x .place, x .counts, x .at) (sym (go version) ∙ d .rest version);
+      }
+    where
+      t : Bytes
+      t = drop (s .at) f
+
+      go : (version : Bool)
+          → restFrom cwr22 asked version (classAt (s .place)) (tally (s .counts)) (drop (s .at) f)
+          ≡ restFrom cwr22 asked version (classAt (row .place)) (count (tally (s .counts)) (classAt (row .place))) (drop (s .at + row .length + 2) f)
+      go version =
+          jump (drop (s .at) f) row its asked version (classAt (s .place)) (tally (s .counts)) (m .place) (m .type)
+          (rw length-drop (omega (arith, r .fits))) (r .text) (rw drop-drop (r .pair)) (r .follows) (r .numbers)
+          ∙ rw (drop-drop, add-assoc)
+
+-- ---- the faults with one record more
+
+module _ (r : Bytes) (row : Row) (its : row ≡ rowFor (take 3 r)) (asked : Bool) (m : Faults) (p : Class) (n : Counts) where
+  pub faults-more : (f : Faults) (follows held : Bool)
+      → follows ≡ mayFollow p (classAt (row .place))
+      → held ≡ sameBytes (slot (classAt (row .place)) r) (expected n (classAt (row .place)))
+      → f .seven ≡ orElse (m .seven) (unless follows (n .records))
+      → f .eight ≡ orElse (m .eight) (unless (eqb 4 (row .place) || eqb 5 (row .place) || (not asked || held)) (n .records))
+      → f .nine ≡ orElse (m .nine) (unless (not (eqb 4 (row .place) || eqb 5 (row .place)) || (not asked || held)) (n .records))
+      → f ≡ moreFaults cwr22 asked m p n r
+  unfolding moreFaults
+  faults-more f follows held a b x y z =
+      let c = row-class r row its in
+      let s : f .seven ≡ orElse (m .seven) (unless (mayFollow p (cls cwr22 r)) (n .records)) = x ∙ rw (a, c) in
+      let h : held ≡ numbered cwr22 n r = b ∙ rw c in
+      let e : f .eight ≡ orElse (m .eight) (unless (not asked || ok8 cwr22 n r) (n .records)) =
+      y ∙ rw (row-code r row its, h, or-swap (closes (cls cwr22 r)) (not asked) (numbered cwr22 n r)) in
+      let g : f .nine ≡ orElse (m .nine) (unless (not asked || ok9 cwr22 n r) (n .records)) =
+      z ∙ rw (row-code r row its, h, or-swap (not (closes (cls cwr22 r))) (not asked) (numbered cwr22 n r)) in
+      faults s e g
+    where
+      faults : {a b c d e g : Option ℕ} → a ≡ b → c ≡ d → e ≡ g
+          → _≡_ {A = Faults} (record { seven = a; eight = c; nine = e }) (record { seven = b; eight = d; nine = g })
+      faults s e g = rw (s, e, g)
+
+-- ---- what a yes of all tests says
+
+ands : (a b : Bool) → (a && b) ≡ true → (a ≡ true) × (b ≡ true)
+ands a b e = and-eq-true-iff a b .0 e
+
+module _ (f : Bytes) (asked : Bool) (s : Stand) (row : Row) where
+  pub right-at : (l : ℕ) → l ≡ row .length → (r : Bytes) → r ≡ take (s .at + l - s .at) (drop (s .at) f)
+      → s .at ≤ length f → l + 2 ≤ length f - s .at → 3 ≤ row .length
+      → (type pair text follows numbers : Bool)
+      → type ≡ sameBytes (typeOf row) (getD r 0 0 ∷ getD r 1 0 ∷ getD r 2 0 ∷ [])
+      → pair ≡ beginsPair (drop (s .at + l) f)
+      → text ≡ every isText r
+      → follows ≡ mayFollow (classAt (s .place)) (classAt (row .place))
+      → numbers ≡ sameBytes (slot (classAt (row .place)) r) (expected (tally (s .counts)) (classAt (row .place)))
+      → (type && pair && text && follows && (not asked || numbers)) ≡ true → RightAt f asked s row
+  right-at l e r part inside fits three type pair text follows numbers a b x y z q =
+      let (q4, n) = ands (type && pair && text && follows) (not asked || numbers) q in
+      let (q3, w) = ands (type && pair && text) follows q4 in
+      let (q2, t) = ands (type && pair) text q3 in
+      let (k, p) = ands type pair q2 in
+      record {
+        fits = omega (arith, e);
+        type = sym (ap (sameBytes (typeOf row)) front) ∙ sym a ∙ k;
+        text = rw (← whole) (sym x ∙ t);
+        pair = rw (← e) (sym b ∙ p);
+        follows = sym y ∙ w;
+        numbers = rw (← whole, ← z) n;
+      }
+    where
+      whole : r ≡ take (row .length) (drop (s .at) f)
+      whole = let m : s .at + l - s .at ≡ row .length = omega (arith, e) in part ∙ ap (λ k. take k (drop (s .at) f)) m
+
+      long : 3 ≤ length r
+      long = rw (whole, length-take-le (row .length) (drop (s .at) f) (rw length-drop (omega (arith, e)))) three
+
+      front : getD r 0 0 ∷ getD r 1 0 ∷ getD r 2 0 ∷ [] ≡ take 3 (drop (s .at) f)
+      front = first-three r long ∙ ap (take 3) whole ∙ take-take 3 (row .length) (drop (s .at) f) three
+
+-- ---- the walk's start, and its turn with a row of the table
+
+pub stood-start : (f : Bytes) (asked : Bool) (n : CodeCounts) → tally n ≡ zeros → Within n → n .records ≡ 0
+    → Stood f asked (record { at = 0; place = 6; counts = n })
+stood-start f asked n e w z =
+    record {
+      bounded = record { inside = omega arith; place = omega arith; within = w; few = omega (arith, z) };
+      rest = λ version. rw e;
+    }
+
+module _ (l : List Row) (table : l ≡ kinds) (k : ℕ) (few : k < 38) (d : Row) where
+  pub stood-by : (f : Bytes) (asked : Bool) (s next : Stand) → Stood f asked s → RightAt f asked s (getD l k d)
+      → Next s (getD l k d .length) (getD l k d .place) next → Stood f asked next
+  stood-by f asked s next st r x =
+      stood-on f asked s (getD l k d) next st r (row-roomy l table k few d)
+      (hinted l table (take 3 (drop (s .at) f)) k (in-table l table k few) d (r .type)) x

@@ -1,0 +1,62 @@
+-- `structure::answer` meets its contract: 3, and then what the walk leaves for the scans to decide.
+use mathlib.Core.Path.{_≡_, ap, _∙_}
+use mathlib.Core.Bool.{Bool}
+use Prim.Native.Nat.{ℕ, _-_}
+use native.Mathlib.Omega.{arith}
+use lib.ListN.{take}
+use Rattle.lines.specs.Scan.{textLength}
+use Rattle.format.specs.Table.{unknown}
+use Rattle.format.specs.Cwr22.{cwr22, version22}
+use Rattle.format.specs.Checks.{zeros}
+use Rattle.structure.specs.Rest.{restFrom}
+use Rattle.structure.proofs.Whole.{whole-long, whole-fits}
+use borrow.Author.Needs.{needs}
+use Rattle.structure.proofs.answer.Statement.{statement}
+use Rattle.structure.proofs.answer.Tie as tie
+
+returns : tie.Need-returns
+returns c = whole-long (c .before .before .args .file .now) (c .before .before .args .asked) (c .if1 .taken)
+
+text-end-requires : tie.Need-text-end-requires
+text-end-requires c κs = search needs
+
+sub-version : tie.Need-sub-version
+sub-version c = search needs
+
+part-version-start : tie.Need-part-version-start
+part-version-start c = search needs
+
+part-version-end : tie.Need-part-version-end
+part-version-end c = search needs
+
+version-requires : tie.Need-version-requires
+version-requires c κs = search needs
+
+walk-requires : tie.Need-walk-requires
+walk-requires c κs = search needs
+
+scan-requires : tie.Need-scan-requires
+scan-requires c κs = (c .walk .ensures .bounded, c .before .before .before .before .if1 .left)
+
+returns-2 : tie.Need-returns-2
+returns-2 c =
+    let g = c .before .before .before .before .before .before .before .args in
+    let n : c .before .before .before .before .text-end .result - 0 ≡ textLength (g .file .now) = omega (arith, c .before .before .before .before .text-end .ensures .0) in
+    c .scan .ensures
+    ∙ c .before .walk .ensures .rest (c .before .before .version .result)
+    ∙ ap (λ (v : Bool). restFrom cwr22 (g .asked) v unknown zeros (g .file .now)) (c .before .before .version .ensures ∙ ap (λ (k : ℕ). version22 (take k (g .file .now))) n)
+    ∙ whole-fits (g .file .now) (g .asked) (c .before .before .before .before .before .if1 .left)
+
+pub answer-spec : {M : Type 1} → statement M
+answer-spec =
+    tie.close
+    (tie.spec
+    returns
+    text-end-requires
+    sub-version
+    part-version-start
+    part-version-end
+    version-requires
+    walk-requires
+    scan-requires
+    returns-2)

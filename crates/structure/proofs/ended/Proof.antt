@@ -1,0 +1,75 @@
+-- `structure::ended` meets its contract: one law for each ground.
+use borrow.Author.Needs.{needs}
+use Rattle.numbers.specs.Tally.{tally}
+use Rattle.structure.proofs.Faults.{end-met, end-place, end-number, end-total, end-version, end-passed}
+use Rattle.structure.proofs.ended.Statement.{statement}
+use Rattle.structure.proofs.ended.Tie as tie
+
+sub-index : tie.Need-sub-index
+sub-index c = search needs
+
+index-requires : tie.Need-index-requires
+index-requires c κs = search needs
+
+index-requires-2 : tie.Need-index-requires-2
+index-requires-2 c κs = search needs
+
+sub-index-2 : tie.Need-sub-index-2
+sub-index-2 c = search needs
+
+index-requires-3 : tie.Need-index-requires-3
+index-requires-3 c κs = search needs
+
+sub-index-3 : tie.Need-sub-index-3
+sub-index-3 c = search needs
+
+index-requires-4 : tie.Need-index-requires-4
+index-requires-4 c κs = search needs
+
+returns : tie.Need-returns
+returns c =
+    let g = c .before .before .before .before .before .args in
+    λ asked. end-met asked (g .version) (g .m) (g .s .place) (tally (g .s .counts)) _ (c .before .before .if1 .taken) (c .index .ensures)
+
+returns-2 : tie.Need-returns-2
+returns-2 c =
+    let g = c .before .before .before .before .before .before .args in
+    λ asked. end-place asked (g .version) (g .m) (g .s .place) (tally (g .s .counts)) (c .before .before .before .if1 .left) (c .before .before .before .before .before .before .pre) _ (c .before .if2 .taken) (c .index2 .ensures)
+
+returns-3 : tie.Need-returns-3
+returns-3 c =
+    let g = c .before .before .before .before .before .before .before .before .before .args in
+    λ asked. end-number asked (g .version) (g .m) (g .s .place) (tally (g .s .counts)) (c .before .before .before .before .before .before .if1 .left) (c .before .before .before .before .before .before .before .before .before .pre) (c .before .before .before .before .if2 .left) _ (c .before .before .if3 .taken) (c .index3 .ensures)
+
+returns-4 : tie.Need-returns-4
+returns-4 c =
+    let g = c .before .before .before .before .before .before .before .before .before .before .before .args in
+    λ asked. end-total asked (g .version) (g .m) (g .s .place) (tally (g .s .counts)) (c .before .before .before .before .before .before .before .before .if1 .left) (c .before .before .before .before .before .before .before .before .before .before .before .pre) (c .before .before .before .before .before .before .if2 .left) (c .before .before .before .before .if3 .left) _ (c .before .before .if4 .taken) (c .index4 .ensures)
+
+returns-5 : tie.Need-returns-5
+returns-5 c =
+    let g = c .before .before .before .before .before .before .before .before .before .before .args in
+    λ asked. end-passed asked (g .version) (g .m) (g .s .place) (tally (g .s .counts)) (c .before .before .before .before .before .before .before .if1 .left) (c .before .before .before .before .before .before .before .before .before .before .pre) (c .before .before .before .before .before .if2 .left) (c .before .before .before .if3 .left) (c .before .if4 .left) (c .if5 .taken)
+
+returns-6 : tie.Need-returns-6
+returns-6 c =
+    let g = c .before .before .before .before .before .before .before .before .before .before .args in
+    λ asked. end-version asked (g .version) (g .m) (g .s .place) (tally (g .s .counts)) (c .before .before .before .before .before .before .before .if1 .left) (c .before .before .before .before .before .before .before .before .before .before .pre) (c .before .before .before .before .before .if2 .left) (c .before .before .before .if3 .left) (c .before .if4 .left) (c .if5 .left)
+
+pub ended-spec : {M : Type 1} → statement M
+ended-spec =
+    tie.close
+    (tie.spec
+    sub-index
+    index-requires
+    index-requires-2
+    sub-index-2
+    index-requires-3
+    sub-index-3
+    index-requires-4
+    returns
+    returns-2
+    returns-3
+    returns-4
+    returns-5
+    returns-6)

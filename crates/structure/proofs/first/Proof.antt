@@ -1,0 +1,20 @@
+-- `structure::first` meets its contract.
+use borrow.Author.Needs.{needs}
+use Rattle.structure.proofs.Faults.{met-one, met-kept}
+use Rattle.structure.proofs.first.Statement.{statement}
+use Rattle.structure.proofs.first.Tie as tie
+
+returns : tie.Need-returns
+returns c = met-kept (c .before .args .fault) (c .if1 .taken) _
+
+add-result : tie.Need-add-result
+add-result c = search needs
+
+returns-2 : tie.Need-returns-2
+returns-2 c = rw (c .before .if1 .left, c .if2 .taken)
+
+returns-3 : tie.Need-returns-3
+returns-3 c = rw (c .before .if1 .left, c .if2 .left) (met-one (c .before .before .args .place))
+
+pub first-spec : {M : Type 1} → statement M
+first-spec = tie.close (tie.spec returns add-result returns-2 returns-3)

@@ -1,0 +1,110 @@
+-- `structure::judge` meets its contract: the records from here on, with the faults met, decide.
+use Prim.Native.Nat.{_-_}
+use native.Mathlib.Omega.{arith}
+use mathlib.Core.Path.{refl, ap, _∙_}
+use lib.ListN.{length, drop}
+use borrow.Author.Tests.{not-true, not-false}
+use Rattle.format.specs.Cwr22.{cwr22}
+use Rattle.format.specs.Lines.{lines}
+use Rattle.format.specs.Checks.{classAt}
+use Rattle.format.specs.Structure.{refused}
+use Rattle.format.specs.Numbering.{recordsIn}
+use Rattle.numbers.specs.Tally.{tally}
+use Rattle.structure.specs.Rest.{faultless, judgedFrom}
+use Rattle.structure.proofs.Search.{Judging, judging-end, judging-type, judging-on, is-typed}
+use borrow.Author.Needs.{needs}
+use Rattle.structure.proofs.judge.Statement.{statement}
+use Rattle.structure.proofs.judge.Tie as tie
+
+abbrev Inv-loop : tie.InvT-loop
+Inv-loop file asked version s₀ m₀ s m =
+    Judging file asked version s m
+    (judgedFrom cwr22 asked version faultless (classAt (s₀ .place)) (tally (s₀ .counts)) (recordsIn (lines (drop (s₀ .at) file))))
+
+abbrev μ-loop : tie.MeasureT-loop
+μ-loop file asked version s₀ m₀ s m = length file - s .at
+
+loop-holds : tie.Need-loop-holds Inv-loop μ-loop
+loop-holds c = record { bounded = c .before .pre .0; fine = c .before .pre .2; rest = refl }
+
+text-end-requires : tie.Need-text-end-requires Inv-loop μ-loop
+text-end-requires c κs = c .before .before .loop .inv .bounded .inside
+
+sub-record : tie.Need-sub-record Inv-loop μ-loop
+sub-record c = search needs
+
+part-record-start : tie.Need-part-record-start Inv-loop μ-loop
+part-record-start c = search needs
+
+part-record-end : tie.Need-part-record-end Inv-loop μ-loop
+part-record-end c = search needs
+
+row-of-requires : tie.Need-row-of-requires Inv-loop μ-loop
+row-of-requires c κs = search needs
+
+shaped-requires : tie.Need-shaped-requires Inv-loop μ-loop
+shaped-requires c κs = search needs
+
+index-requires : tie.Need-index-requires Inv-loop μ-loop
+index-requires c κs = search needs
+
+returns : tie.Need-returns Inv-loop μ-loop
+returns c =
+    let g = c .before .before .before .before .before .before .before .before .before .before .before .args in
+    let l = c .before .before .before .before .before .before .before .before .before .loop in
+    ap (refused 6) (c .index .ensures)
+    ∙ judging-type (g .file .now) (g .asked) (g .version) (l .s) (l .m) _ (l .inv) (c .before .before .before .before .before .before .before .if1 .taken) (c .before .before .before .before .before .before .text-end .result) (c .before .before .before .before .before .before .text-end .ensures .0) _ refl (c .before .before .before .before .row-of .result) (c .before .before .before .before .row-of .ensures) (c .before .before .before .shaped .result) (c .before .before .before .shaped .ensures) (not-true _ (c .before .before .if2 .taken))
+
+more-requires : tie.Need-more-requires Inv-loop μ-loop
+more-requires c κs =
+    let g = c .before .before .before .before .before .before .before .before .before .args in
+    let l = c .before .before .before .before .before .before .before .loop in
+    let b = l .inv .bounded in (
+      (b .place, b .within, omega (arith, b .few, b .inside)),
+      (c .before .before .row-of .ensures, is-typed (g .file .now) (g .asked) (g .version) (l .s) (l .m) _ (l .inv) (c .before .before .before .before .before .if1 .taken) (c .before .before .before .before .text-end .result) (c .before .before .before .before .text-end .ensures .0) _ refl (c .before .before .row-of .result) (c .before .before .row-of .ensures) (c .before .shaped .result) (c .before .shaped .ensures) ∙ not-false _ (c .if2 .left)),
+    )
+
+behind-requires : tie.Need-behind-requires Inv-loop μ-loop
+behind-requires c κs =
+    let b = c .before .before .before .before .before .before .before .before .loop .inv .bounded in
+    (omega (arith, b .inside), b .within, b .few)
+
+loop-less : tie.Need-loop-less Inv-loop μ-loop
+loop-less c = omega (arith, c .behind .ensures .at)
+
+loop-again : tie.Need-loop-again Inv-loop μ-loop
+loop-again c =
+    let g = c .before .before .before .before .before .before .before .before .before .before .before .args in
+    let l = c .before .before .before .before .before .before .before .before .before .loop in
+    judging-on (g .file .now) (g .asked) (g .version) (l .s) (l .m) _ (l .inv) (c .before .before .before .before .before .before .before .if1 .taken) (c .before .before .before .before .before .before .text-end .result) (c .before .before .before .before .before .before .text-end .ensures .0) _ refl (c .before .before .before .before .row-of .result) (c .before .before .before .before .row-of .ensures) (c .before .before .before .shaped .result) (c .before .before .before .shaped .ensures) (not-false _ (c .before .before .if2 .left)) _ (c .behind .ensures) _ (c .before .more .ensures)
+
+ended-requires : tie.Need-ended-requires Inv-loop μ-loop
+ended-requires c κs = c .before .before .loop .inv .bounded .place
+
+returns-2 : tie.Need-returns-2 Inv-loop μ-loop
+returns-2 c =
+    let g = c .before .before .before .before .before .args in
+    let l = c .before .before .before .loop in
+    c .ended .ensures (g .asked) ∙ judging-end (g .file .now) (g .asked) (g .version) (l .s) (l .m) _ (l .inv) (c .before .if1 .left)
+
+pub judge-spec : {M : Type 1} → statement M
+judge-spec =
+    tie.close
+    (tie.spec
+    Inv-loop
+    μ-loop
+    loop-holds
+    text-end-requires
+    sub-record
+    part-record-start
+    part-record-end
+    row-of-requires
+    shaped-requires
+    index-requires
+    returns
+    more-requires
+    behind-requires
+    loop-less
+    loop-again
+    ended-requires
+    returns-2)

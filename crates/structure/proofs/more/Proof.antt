@@ -1,0 +1,45 @@
+-- `structure::more` meets its contract: the row's place is the record's class, and the tests are those of 7, 8 and 9.
+use borrow.Author.Needs.{needs}
+use native.Mathlib.Omega.{arith}
+use Rattle.format.specs.Checks.{classAt}
+use Rattle.numbers.specs.Tally.{tally}
+use Rattle.structure.specs.Walk.{faultsOf}
+use Rattle.structure.proofs.Rows.{row-six, row-room}
+use Rattle.structure.proofs.Turns.{faults-more}
+use Rattle.structure.proofs.more.Statement.{statement}
+use Rattle.structure.proofs.more.Tie as tie
+
+holds-requires : tie.Need-holds-requires
+holds-requires c κs =
+    let g = c .before .before .args in
+    ((c .before .before .pre .0 .1, omega arith), row-room (g .«record» .now) (g .row) (c .before .before .pre .1 .0) (c .before .before .pre .1 .1))
+
+follows-requires : tie.Need-follows-requires
+follows-requires c κs = let g = c .before .before .before .before .before .args in (c .before .before .before .before .before .pre .0 .0, row-six (g .«record» .now) (g .row) (c .before .before .before .before .before .pre .1 .0))
+
+first-requires : tie.Need-first-requires
+first-requires c κs = search needs
+
+first-requires-2 : tie.Need-first-requires-2
+first-requires-2 c κs = search needs
+
+first-requires-3 : tie.Need-first-requires-3
+first-requires-3 c κs = search needs
+
+returns : tie.Need-returns
+returns c =
+    let g = c .before .before .before .before .before .before .before .before .before .args in
+    faults-more (g .«record» .now) (g .row) (c .before .before .before .before .before .before .before .before .before .pre .1 .0) (g .asked) (faultsOf (g .m)) (classAt (g .s .place)) (tally (g .s .counts)) _
+    (c .before .before .before .follows .result) (c .before .before .before .before .before .before .holds .result) (c .before .before .before .follows .ensures) (c .before .before .before .before .before .before .holds .ensures)
+    (c .before .before .first .ensures) (c .before .first2 .ensures) (c .first3 .ensures)
+
+pub more-spec : {M : Type 1} → statement M
+more-spec =
+    tie.close
+    (tie.spec
+    holds-requires
+    follows-requires
+    first-requires
+    first-requires-2
+    first-requires-3
+    returns)

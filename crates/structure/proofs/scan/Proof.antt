@@ -1,0 +1,58 @@
+-- `structure::scan` meets its contract: the lines decide 4 and 5, and then the records.
+use native.Mathlib.Omega.{arith}
+use mathlib.Core.Path.{sym, _∙_}
+use lib.ListN.{drop}
+use Rattle.format.specs.Lines.{lines}
+use Rattle.format.specs.Checks.{classAt}
+use Rattle.numbers.specs.Tally.{tally}
+use Rattle.structure.proofs.Whole.{lines-fault, lines-good, lines-many, lines-few}
+use borrow.Author.Needs.{needs}
+use Rattle.structure.proofs.scan.Statement.{statement}
+use Rattle.structure.proofs.scan.Tie as tie
+
+index-requires : tie.Need-index-requires
+index-requires c κs = search needs
+
+lines-from-requires : tie.Need-lines-from-requires
+lines-from-requires c κs =
+    let b = c .before .before .before .pre .0 in
+    (b .inside, omega (arith, b .few, c .index .ensures))
+
+enum-known-n : tie.Need-enum-known-n
+enum-known-n c = search needs
+
+enum-known-n-2 : tie.Need-enum-known-n-2
+enum-known-n-2 c = search needs
+
+judge-requires : tie.Need-judge-requires
+judge-requires c κs =
+    let g = c .before .before .before .before .before .before .before .before .args in
+    (c .before .before .before .before .before .before .before .before .pre .0, c .before .before .before .before .before .before .before .before .pre .1, lines-good (g .asked) (g .version) (classAt (g .s .place)) (tally (g .s .counts)) (c .before .before .before .before .before .index .result) (c .before .before .before .before .before .index .ensures) (lines (drop (g .s .at) (g .file .now))) _ (sym (c .before .before .before .before .lines-from .ensures) ∙ c .before .before .n2 .given .1))
+
+returns : tie.Need-returns
+returns c =
+    let g = c .before .before .before .before .before .before .before .args in
+    lines-fault (g .asked) (g .version) (classAt (g .s .place)) (tally (g .s .counts)) (c .before .before .before .before .index .result) (c .before .before .before .before .index .ensures) (lines (drop (g .s .at) (g .file .now))) _ (sym (c .before .before .before .lines-from .ensures) ∙ c .before .n .given .1)
+
+returns-2 : tie.Need-returns-2
+returns-2 c =
+    let g = c .before .before .before .before .before .before .before .before .args in
+    lines-many (g .asked) (g .version) (classAt (g .s .place)) (tally (g .s .counts)) (c .before .before .before .before .before .index .result) (c .before .before .before .before .before .index .ensures) (lines (drop (g .s .at) (g .file .now))) _ (sym (c .before .before .before .before .lines-from .ensures) ∙ c .before .before .n2 .given .1) (c .if1 .taken)
+
+returns-3 : tie.Need-returns-3
+returns-3 c =
+    let g = c .before .before .before .before .before .before .before .before .before .args in
+    c .judge .ensures ∙ lines-few (g .asked) (g .version) (classAt (g .s .place)) (tally (g .s .counts)) (c .before .before .before .before .before .before .index .result) (c .before .before .before .before .before .before .index .ensures) (lines (drop (g .s .at) (g .file .now))) _ (sym (c .before .before .before .before .before .lines-from .ensures) ∙ c .before .before .before .n2 .given .1) (c .before .if1 .left)
+
+pub scan-spec : {M : Type 1} → statement M
+scan-spec =
+    tie.close
+    (tie.spec
+    index-requires
+    lines-from-requires
+    enum-known-n
+    enum-known-n-2
+    judge-requires
+    returns
+    returns-2
+    returns-3)

@@ -1,0 +1,106 @@
+-- `structure::walk` meets its contract: where it stands, all before was right.
+use Prim.Native.Nat.{_-_}
+use native.Mathlib.Omega.{arith}
+use lib.ListN.{length}
+use borrow.Author.Tests.{not-false}
+use Rattle.structure.specs.Walk.{Stood}
+use Rattle.structure.proofs.Turns.{stood-start, stood-by}
+use Rattle.structure.proofs.Rows.{row-roomy}
+use borrow.Author.Needs.{needs}
+use Rattle.structure.proofs.walk.Statement.{statement}
+use Rattle.structure.proofs.walk.Tie as tie
+
+abbrev Inv-loop : tie.InvT-loop
+Inv-loop file asked rows s₀ s = Stood file asked s
+
+abbrev μ-loop : tie.MeasureT-loop
+μ-loop file asked rows s₀ s = length file - s .at
+
+table-requires : tie.Need-table-requires Inv-loop μ-loop
+table-requires c κs = search needs
+
+zero-requires : tie.Need-zero-requires Inv-loop μ-loop
+zero-requires c κs = search needs
+
+loop-holds : tie.Need-loop-holds Inv-loop μ-loop
+loop-holds c =
+    let z = c .zero in
+    stood-start (c .before .before .before .args .file .now) (c .before .before .before .args .asked) (z .result) (z .ensures .0) (z .ensures .1 .0 .0) (z .ensures .1 .1)
+
+sub-if1 : tie.Need-sub-if1 Inv-loop μ-loop
+sub-if1 c = omega (arith, c .loop .inv .bounded .inside)
+
+returns : tie.Need-returns Inv-loop μ-loop
+returns c = c .before .loop .inv
+
+shared-slice-read-hint : tie.Need-shared-slice-read-hint Inv-loop μ-loop
+shared-slice-read-hint c = search needs
+
+add-hint : tie.Need-add-hint Inv-loop μ-loop
+add-hint c = search needs
+
+shared-slice-read-hint-2 : tie.Need-shared-slice-read-hint-2 Inv-loop μ-loop
+shared-slice-read-hint-2 c = search needs
+
+add-hint-2 : tie.Need-add-hint-2 Inv-loop μ-loop
+add-hint-2 c = search needs
+
+shared-slice-read-hint-3 : tie.Need-shared-slice-read-hint-3 Inv-loop μ-loop
+shared-slice-read-hint-3 c = search needs
+
+hint-requires : tie.Need-hint-requires Inv-loop μ-loop
+hint-requires c κs = search needs
+
+mul-row : tie.Need-mul-row Inv-loop μ-loop
+mul-row c = search needs
+
+array-copy-out-row : tie.Need-array-copy-out-row Inv-loop μ-loop
+array-copy-out-row c = search needs
+
+right-requires : tie.Need-right-requires Inv-loop μ-loop
+right-requires c κs =
+    (c .before .before .before .before .before .before .loop .inv .bounded, c .before .before .before .before .before .before .before .before .before .before .pre, row-roomy (c .before .before .before .before .before .before .before .before .table .result) (c .before .before .before .before .before .before .before .before .table .ensures) (c .before .hint .result) (c .before .hint .ensures) _)
+
+returns-2 : tie.Need-returns-2 Inv-loop μ-loop
+returns-2 c = c .before .before .before .before .before .before .before .before .loop .inv
+
+behind-requires : tie.Need-behind-requires Inv-loop μ-loop
+behind-requires c κs =
+    let b = c .before .before .before .before .before .before .before .before .loop .inv .bounded in
+    (omega (arith, b .inside), b .within, b .few)
+
+loop-less : tie.Need-loop-less Inv-loop μ-loop
+loop-less c =
+    let r = c .before .before .right .ensures (not-false _ (c .before .if2 .left)) in
+    omega (arith, r .fits, c .behind .ensures .at)
+
+loop-again : tie.Need-loop-again Inv-loop μ-loop
+loop-again c =
+    let r = c .before .before .right .ensures (not-false _ (c .before .if2 .left)) in
+    stood-by (c .before .before .before .before .before .before .before .before .before .before .before .table .result) (c .before .before .before .before .before .before .before .before .before .before .before .table .ensures) (c .before .before .before .before .hint .result) (c .before .before .before .before .hint .ensures) _ (c .before .before .before .before .before .before .before .before .before .before .before .before .before .args .file .now) (c .before .before .before .before .before .before .before .before .before .before .before .before .before .args .asked) (c .before .before .before .before .before .before .before .before .before .loop .s) _
+    (c .before .before .before .before .before .before .before .before .before .loop .inv) r (c .behind .ensures)
+
+pub walk-spec : {M : Type 1} → statement M
+walk-spec =
+    tie.close
+    (tie.spec
+    Inv-loop
+    μ-loop
+    table-requires
+    zero-requires
+    loop-holds
+    sub-if1
+    returns
+    shared-slice-read-hint
+    add-hint
+    shared-slice-read-hint-2
+    add-hint-2
+    shared-slice-read-hint-3
+    hint-requires
+    mul-row
+    array-copy-out-row
+    right-requires
+    returns-2
+    behind-requires
+    loop-less
+    loop-again)

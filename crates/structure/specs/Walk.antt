@@ -1,0 +1,61 @@
+-- Where a walk over a file stands, what it has met, and what it asks of a record.
+use Prim.Native.Nat.{ℕ, zero, suc, _+_, _≤_}
+use mathlib.Core.Path.{_≡_}
+use mathlib.Core.Bool.{Bool, true, not, _||_}
+use mathlib.Core.Option.{Option, none, some}
+use lib.ListN.{length, take, drop}
+use Rattle.format.specs.Bytes.{Bytes, sameBytes, every, isText, beginsPair}
+use Rattle.format.specs.Table.{at, width, unknown}
+use Rattle.format.specs.Cwr22.{cwr22}
+use Rattle.format.specs.Checks.{classAt, zeros, count, mayFollow, slot, expected}
+use Rattle.kinds.specs.Rows.{typeOf}
+use Rattle.kinds.specs.declared.Row.{Row}
+use Rattle.numbers.specs.Tally.{tally, Within}
+use Rattle.structure.specs.declared.Stand.{Stand}
+use Rattle.structure.specs.declared.Met.{Met}
+use Rattle.structure.specs.Rest.{Faults, restFrom}
+
+-- a row has a known place, and room for a type and the numbers
+pub record Roomy (r : Row) : Type 0 where
+  pub place : r .place ≤ 5
+  pub type : 3 ≤ r .length
+  pub numbers : at (classAt (r .place)) + width (classAt (r .place)) ≤ r .length
+
+-- a place in the file, and counts that no file outgrows
+pub record Bounded (f : Bytes) (s : Stand) : Type 0 where
+  pub inside : s .at ≤ length f
+  pub place : s .place ≤ 6
+  pub within : Within (s .counts)
+  pub few : s .counts .records ≤ s .at
+
+-- all before was right, so the rest decides, whatever is found of the version
+pub record Stood (f : Bytes) (asked : Bool) (s : Stand) : Type 0 where
+  pub bounded : Bounded f s
+  pub rest : (version : Bool)
+      → restFrom cwr22 asked version (classAt (s .place)) (tally (s .counts)) (drop (s .at) f) ≡ restFrom cwr22 asked version unknown zeros f
+
+-- the record of that row which stands there is whole, and right in all that is asked
+pub record RightAt (f : Bytes) (asked : Bool) (s : Stand) (r : Row) : Type 0 where
+  pub fits : s .at + r .length + 2 ≤ length f
+  pub type : sameBytes (typeOf r) (take 3 (drop (s .at) f)) ≡ true
+  pub text : every isText (take (r .length) (drop (s .at) f)) ≡ true
+  pub pair : beginsPair (drop (s .at + r .length) f) ≡ true
+  pub follows : mayFollow (classAt (s .place)) (classAt (r .place)) ≡ true
+  pub numbers :
+      (not asked || sameBytes (slot (classAt (r .place)) (take (r .length) (drop (s .at) f))) (expected (tally (s .counts)) (classAt (r .place)))) ≡ true
+
+-- behind one record more, of that length and place
+pub record Next (s : Stand) (l p : ℕ) (r : Stand) : Type 0 where
+  pub at : r .at ≡ s .at + l + 2
+  pub place : r .place ≡ p
+  pub counts : tally (r .counts) ≡ count (tally (s .counts)) (classAt p)
+  pub within : Within (r .counts)
+  pub records : r .counts .records ≡ s .counts .records + 1
+
+-- the place of a fault as code has it: 0 for none, else one more
+abbrev pub met : ℕ → Option ℕ
+met zero = none
+met (suc n) = some n
+
+abbrev pub faultsOf : Met → Faults
+faultsOf m = record { seven = met (m .seven); eight = met (m .eight); nine = met (m .nine) }
