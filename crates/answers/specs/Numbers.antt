@@ -1,4 +1,5 @@
 -- The number and the place of each refusal.
+use mathlib.Core.Bool.{Bool, true, false}
 use Rattle.format.specs.Structure.{Answer as FormatAnswer, refused, passed, mostRecords}
 use Rattle.answers.specs.declared.Answer.{Answer}
 use Rattle.answers.specs.declared.Answer.the-variants.{Tolerance, Table, Long, Many, Line, Shape, Place, Number, Total, Version, Short, Passed}
@@ -16,3 +17,7 @@ answerOf (Total i) = refused 9 i
 answerOf Version = refused 10 0
 answerOf Short = refused 11 0
 answerOf (Passed g t r) = passed g t r
+
+abbrev pub isPassed : FormatAnswer → Bool
+isPassed (refused n i) = false
+isPassed (passed g t r) = true

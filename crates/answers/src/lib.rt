@@ -1,5 +1,8 @@
 // What a call answers: a refusal, by its ground, or how many groups, transactions and records passed. specs/Numbers.antt gives each
 // case its number and place.
+ghost use mathlib.Core.Path.{_≡_};
+ghost use Rattle.answers.specs.Numbers.{answerOf, isPassed};
+
 pub enum Answer {
     // 1, 2: the tolerance; which of the three tables.
     Tolerance,
@@ -18,4 +21,16 @@ pub enum Answer {
     Version,
     Short,
     Passed(u64, u64, u64),
+}
+
+impl Answer {
+    // Whether it is no refusal.
+    pub fn passes(self) -> bool
+        ensures { λ r. ⌜ r ≡ isPassed (answerOf self) ⌝ }
+    {
+        match self {
+            Answer::Passed(_, _, _) => true,
+            _ => false,
+        }
+    }
 }

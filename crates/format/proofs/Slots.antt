@@ -47,13 +47,19 @@ unfolding behind
 refill a w r h =
     rw (take-at (take a r) (drop (a + w) r) a (length-take-le a r (omega arith)), drop-at (take a r) (drop (a + w) r) a (length-take-le a r (omega arith)), ← take-add a w r, take-append-drop)
 
+-- numbers put into a record whose own were cut out: the record with its number positions overwritten
+pub overwritten : (a w : ℕ) (x r : Bytes) → a ≤ length r → behind a x (take a r ++ drop (a + w) r) ≡ take a r ++ x ++ drop (a + w) r
+unfolding behind
+overwritten a w x r h =
+    rw (take-at (take a r) (drop (a + w) r) a (length-take-le a r h), drop-at (take a r) (drop (a + w) r) a (length-take-le a r h))
+
 pub behind-nothing : (a : ℕ) (s : Bytes) → behind a [] s ≡ s
 unfolding behind
 behind-nothing a s = rw (append-nil, take-append-drop)
 
 -- ---- at the place and width of a class
 
-three : (c : Class) → 3 ≤ at c
+pub three : (c : Class) → 3 ≤ at c
 three hdr = lit≤ tt
 three grh = lit≤ tt
 three head = lit≤ tt

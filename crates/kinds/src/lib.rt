@@ -1,10 +1,11 @@
 // The record types in one fixed table, and the row of a record. specs/Rows.antt makes the same rows of the format's own table
 // and stages; `table` is proved equal to them.
 ghost use mathlib.Core.Path.{_≡_};
+ghost use mathlib.Core.Bool.{true};
 ghost use mathlib.Core.List.{[], _∷_};
 ghost use Prim.Native.Nat.{_<_};
 ghost use lib.ListN.{take};
-ghost use Rattle.format.specs.Bytes.{sameBytes};
+ghost use Rattle.format.specs.Bytes.{Bytes, sameBytes};
 ghost use Rattle.kinds.specs.Rows.{noRow, kinds, typeOf, firstOf, rowFor};
 
 // A record type. Flat: with an enum or a struct inside, the check of the table takes minutes.
@@ -167,6 +168,20 @@ pub fn row_of(record: &[u8]) -> Row
     } else {
         row_of_type(record[0], record[1], record[2])
     }
+}
+
+// The row of a record whose row was hinted at: that row where it is of the record's type. For walks, which keep the table.
+pub fn confirmed(hinted: Row, record: &[u8]) -> Row
+    requires { ⌜ ((t : Bytes) → sameBytes (typeOf hinted) t ≡ true → hinted ≡ rowFor t) ⌝ }
+    ensures { λ r. ⌜ r ≡ rowFor (take 3 (now («record» .entry))) ⌝ }
+{
+    if record.len() < 3 {
+        return row_of(record);
+    }
+    if is_type(hinted, record[0], record[1], record[2]) {
+        return hinted;
+    }
+    row_of(record)
 }
 
 // In the order of the format's rows.

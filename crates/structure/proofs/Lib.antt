@@ -4,4 +4,5 @@ pub mod Follow
 pub mod Faults
 pub mod Turns
 pub mod Search
+pub mod Here
 pub mod Whole

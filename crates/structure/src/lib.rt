@@ -80,7 +80,7 @@ fn version(record: &[u8]) -> bool
 }
 
 // Behind one record more, of that row.
-fn behind(s: Stand, row: Row) -> Stand
+pub fn behind(s: Stand, row: Row) -> Stand
     requires { ⌜ (s .at ≤ mostBytes) × (Within (s .counts)) × (s .counts .records ≤ s .at) ⌝ }
     ensures { λ r. ⌜ Next s (row .length) (row .place) r ⌝ }
 {

@@ -1,0 +1,25 @@
+-- `numbering::number_line` meets its contract: the line is copied whole, and the numbers stand over it.
+use borrow.Author.Needs.{needs}
+use Rattle.format.specs.Checks.{classAt, expected}
+use Rattle.numbers.specs.Tally.{tally}
+use Rattle.numbering.proofs.Laws.{line-over}
+use Rattle.numbering.proofs.number_line.Statement.{statement}
+use Rattle.numbering.proofs.number_line.Tie as tie
+
+copy-requires : tie.Need-copy-requires
+copy-requires c κs = search needs
+
+put-requires : tie.Need-put-requires
+put-requires c κs = search needs
+
+same-length : tie.Need-same-length
+same-length c = search needs
+
+returns : tie.Need-returns
+returns c =
+    let g = c .before .before .before .before .before .before .before .before .before .before .args in
+    line-over (g .line .now) (g .out .now) _ _ (classAt (g .place)) (expected (tally (g .counts)) (classAt (g .place)))
+    (c .before .before .before .before .before .before .before .before .before .before .pre .0) (c .before .before .before .before .before .before .copy .ensures .1) (c .before .before .put .ensures)
+
+pub number-line-spec : {M : Type 1} → statement M
+number-line-spec = tie.close (tie.spec copy-requires put-requires same-length returns)

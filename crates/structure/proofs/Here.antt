@@ -1,0 +1,88 @@
+-- A record seen from its place in a file whose lines are good and whose records are right by 6: where it ends, that it has three bytes at
+-- least, and that the row of the three bytes that stand there is its row. Assumes nothing.
+use Prim.Native.Nat.{ℕ, _+_, _≤_, _<_}
+use native.Mathlib.Nat.{add-assoc}
+use native.Mathlib.Omega.{arith}
+use mathlib.Core.Path.{_≡_, sym, ap, _∙_, subst}
+use mathlib.Core.Bool.{true, not, and-eq-true-iff}
+use mathlib.Core.List.{[], _∷_, _++_, append-assoc}
+use lib.ListN.{length, take, drop, length-drop, length-append}
+use lib.Seq.{length-take-le, take-take, take-at, drop-drop}
+use lib.Dec.{T, eqb, eqb→eq}
+use borrow.Author.Tests.{eqb-true}
+use Rattle.format.specs.Bytes.{Bytes}
+use Rattle.format.specs.Table.{at, width, known}
+use Rattle.format.specs.Cwr22.{cwr22}
+use Rattle.format.specs.Lines.{lines}
+use Rattle.format.specs.Checks.{check6, classAt, cls, typed}
+use Rattle.format.specs.Numbering.{recordsIn}
+use Rattle.format.proofs.Logic.{is-true, left, right}
+use Rattle.format.proofs.Slots.{three}
+use Rattle.format.proofs.Passes.{Along}
+use Rattle.kinds.specs.Rows.{rowFor}
+use Rattle.kinds.specs.declared.Row.{Row}
+use Rattle.lines.specs.Scan.{textLength}
+use Rattle.lines.proofs.Laws.{pair-behind, pair-fits}
+use Rattle.structure.specs.Rest.{isGood}
+use Rattle.structure.proofs.Rows.{row-class, row-typed, row-room}
+use Rattle.structure.proofs.Search.{good-pair, good-first}
+
+-- the record that stands at a place, and those behind it
+abbrev pub recordAt : Bytes → ℕ → Bytes
+recordAt f i = take (textLength (drop i f)) (drop i f)
+
+module _ (f : Bytes) (i : ℕ) (here : i < length f) (fine : isGood (lines (drop i f)) ≡ true)
+    (all : Along (check6 cwr22) (recordsIn (lines (drop i f)))) where
+  some : 0 < length (drop i f)
+  some = rw length-drop (omega arith)
+
+  pub fits : i + textLength (drop i f) + 2 ≤ length f
+  fits = pair-fits f (i + textLength (drop i f)) (rw drop-drop at (good-pair (drop i f) some fine))
+
+  pub long : length (recordAt f i) ≡ textLength (drop i f)
+  long = length-take-le (textLength (drop i f)) (drop i f) (rw length-drop (omega (arith, fits)))
+
+  -- what stands behind it, seen from here and from the file's start
+  behind-here : drop (textLength (drop i f) + 2) (drop i f) ≡ drop (i + textLength (drop i f) + 2) f
+  behind-here = rw (drop-drop, add-assoc)
+
+  pub records-here : recordsIn (lines (drop i f)) ≡ recordAt f i ∷ recordsIn (lines (drop (i + textLength (drop i f) + 2) f))
+  records-here = rw behind-here at (good-first (drop i f) some fine .1)
+
+  pub fine-behind : isGood (lines (drop (i + textLength (drop i f) + 2) f)) ≡ true
+  fine-behind = rw behind-here at (good-first (drop i f) some fine .0)
+
+  pub all-behind : Along (check6 cwr22) (recordsIn (lines (drop (i + textLength (drop i f) + 2) f)))
+  all-behind = subst (Along (check6 cwr22)) records-here all .1
+
+  pub here-typed : T (typed cwr22 (recordAt f i))
+  here-typed = subst (Along (check6 cwr22)) records-here all .0
+
+  -- with its CR LF
+  pub line-here : take (textLength (drop i f) + 2) (drop i f) ≡ recordAt f i ++ 13 ∷ 10 ∷ []
+  line-here =
+      let n : length (recordAt f i ++ 13 ∷ 10 ∷ []) ≡ textLength (drop i f) + 2 = length-append (recordAt f i) (13 ∷ 10 ∷ []) ∙ omega (arith, long) in
+      ap (take (textLength (drop i f) + 2)) (pair-behind (textLength (drop i f)) (drop i f) (good-pair (drop i f) some fine) ∙ sym (append-assoc (recordAt f i) (13 ∷ 10 ∷ []) _))
+      ∙ take-at (recordAt f i ++ 13 ∷ 10 ∷ []) _ (textLength (drop i f) + 2) n
+
+  pub here-three : 3 ≤ textLength (drop i f)
+  here-three =
+      let r = recordAt f i in
+      let k = left (known (cls cwr22 r)) (eqb (length r) (cwr22 .len (take 3 r))) here-typed in
+      let l = eqb→eq (length r) (cwr22 .len (take 3 r)) (right (known (cls cwr22 r)) (eqb (length r) (cwr22 .len (take 3 r))) here-typed) in
+      omega (arith, three (cls cwr22 r), cwr22 .room (take 3 r) k, l, long)
+
+  module _ (row : Row) (its : row ≡ rowFor (take 3 (drop i f))) where
+    its-own : row ≡ rowFor (take 3 (recordAt f i))
+    its-own = its ∙ sym (ap rowFor (take-take 3 (textLength (drop i f)) (drop i f) here-three))
+
+    pub row-size : row .length ≡ textLength (drop i f)
+    row-size =
+        let e = sym (row-typed (recordAt f i) row its-own) ∙ is-true (typed cwr22 (recordAt f i)) here-typed in
+        sym (eqb-true (length (recordAt f i)) (row .length) (and-eq-true-iff (not (eqb (row .place) 6)) (eqb (length (recordAt f i)) (row .length)) .0 e .1)) ∙ long
+
+    pub row-numbers : at (classAt (row .place)) + width (classAt (row .place)) ≤ length (recordAt f i)
+    row-numbers = row-room (recordAt f i) row its-own (is-true (typed cwr22 (recordAt f i)) here-typed)
+
+    pub row-is : classAt (row .place) ≡ cls cwr22 (recordAt f i)
+    row-is = row-class (recordAt f i) row its-own
