@@ -28,6 +28,14 @@ pub struct Row {
     pub alone: bool,
 }
 
+impl Row {
+    pub fn size(self) -> usize
+        ensures { λ r. ⌜ r ≡ self .length ⌝ }
+    {
+        self.length as usize
+    }
+}
+
 // The places, numbered as by the format's `code`.
 pub const HDR: u8 = 0;
 

@@ -17,12 +17,6 @@ ghost use Rattle.numbers.specs.Tally.{tally, Room};
 ghost use Rattle.numbering.specs.Outcome.{numberAnswer, numberBuffer};
 ghost use Rattle.numbering.specs.Fill.{Sized};
 
-fn wide(x: u16) -> usize
-    ensures { λ r. ⌜ r ≡ x ⌝ }
-{
-    x as usize
-}
-
 // One line, with its CR LF: copied, and its numbers written over what stood there.
 fn number_line(line: &[u8], out: &mut [u8], place: u8, counts: Counts)
     requires { ⌜ (length (now out) ≡ length (now line)) × (Room counts) × (at (classAt place) + width (classAt place) ≤ length (now line)) ⌝ }
@@ -49,7 +43,7 @@ fn fill(file: &[u8], out: &mut [u8])
         let counts = s.counts;
         let k = kinds::hint(file[at], file[at + 1], file[at + 2]);
         let row = kinds::confirmed(rows[k], &file[at..]);
-        let end = at + wide(row.length) + 2;
+        let end = at + row.size() + 2;
         number_line(&file[at..end], &mut out[at..end], row.place, counts);
         s = structure::behind(s, row);
     }

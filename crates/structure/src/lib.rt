@@ -45,12 +45,6 @@ const MOST_BYTES: usize = 16777216;
 
 const MOST_RECORDS: usize = 131072;
 
-fn wide(x: u16) -> usize
-    ensures { λ r. ⌜ r ≡ x ⌝ }
-{
-    x as usize
-}
-
 fn index(n: u64) -> usize
     ensures { λ r. ⌜ r ≡ n ⌝ }
 {
@@ -87,7 +81,7 @@ pub fn behind(s: Stand, row: Row) -> Stand
     let counts = s.counts;
     let more = counts.with(row.place);
     Stand {
-        at: s.at + wide(row.length) + 2,
+        at: s.at + row.size() + 2,
         place: row.place,
         counts: more,
     }
@@ -102,7 +96,7 @@ fn right(file: &[u8], asked: bool, s: Stand, row: Row) -> bool
 {
     let at = s.at;
     let counts = s.counts;
-    let length = wide(row.length);
+    let length = row.size();
     if file.len() - at < length + 2 {
         return false;
     }
@@ -158,7 +152,7 @@ fn first(fault: u64, ok: bool, place: u64) -> u64
 fn shaped(row: Row, record: &[u8]) -> bool
     ensures { λ r. ⌜ r ≡ (not (eqb (row .place) 6) && eqb (length (now («record» .entry))) (row .length)) ⌝ }
 {
-    (row.place != UNKNOWN) & (record.len() == wide(row.length))
+    (row.place != UNKNOWN) & (record.len() == row.size())
 }
 
 // The faults met with this record, which is of that row and right by 6.

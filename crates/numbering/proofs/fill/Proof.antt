@@ -20,11 +20,11 @@ abbrev μ-loop : tie.MeasureT-loop
 μ-loop file out₀ rows s₀ out s = length file - s .at
 
 -- the row of the record that stands there, and the end of its line
-its : (c : tie.After-wide Inv-loop μ-loop) → c .before .confirmed .result ≡ rowFor (take 3 (drop (c .before .before .before .before .before .before .before .before .before .before .before .loop .s .at) (c .before .before .before .before .before .before .before .before .before .before .before .before .before .before .before .before .args .file .now)))
+its : (c : tie.After-size Inv-loop μ-loop) → c .before .confirmed .result ≡ rowFor (take 3 (drop (c .before .before .before .before .before .before .before .before .before .before .before .loop .s .at) (c .before .before .before .before .before .before .before .before .before .before .before .before .before .before .before .before .args .file .now)))
 its c = c .before .confirmed .ensures ∙ ap (λ (r : Bytes). rowFor (take 3 r)) (to-end (c .before .before .before .before .before .before .before .before .before .before .before .before .before .before .before .before .args .file .now) (c .before .before .before .before .before .before .before .before .before .before .before .loop .s .at))
 
-end : (c : tie.After-wide Inv-loop μ-loop) → c .before .before .before .before .before .before .before .before .before .before .before .loop .s .at + c .wide .result + 2 ≤ length (c .before .before .before .before .before .before .before .before .before .before .before .before .before .before .before .before .args .file .now)
-end c = rw (c .wide .ensures) (ends (c .before .before .before .before .before .before .before .before .before .before .before .before .before .before .before .before .args .file .now) (c .before .before .before .before .before .before .before .before .before .before .before .before .before .before .before .before .args .out .now) (c .before .before .before .before .before .before .before .before .before .before .before .loop .out) (c .before .before .before .before .before .before .before .before .before .before .before .loop .s) (c .before .before .before .before .before .before .before .before .before .before .before .loop .inv) (c .before .before .before .before .before .before .before .before .before .if1 .taken) (c .before .confirmed .result) (its c))
+end : (c : tie.After-size Inv-loop μ-loop) → c .before .before .before .before .before .before .before .before .before .before .before .loop .s .at + c .size .result + 2 ≤ length (c .before .before .before .before .before .before .before .before .before .before .before .before .before .before .before .before .args .file .now)
+end c = rw (c .size .ensures) (ends (c .before .before .before .before .before .before .before .before .before .before .before .before .before .before .before .before .args .file .now) (c .before .before .before .before .before .before .before .before .before .before .before .before .before .before .before .before .args .out .now) (c .before .before .before .before .before .before .before .before .before .before .before .loop .out) (c .before .before .before .before .before .before .before .before .before .before .before .loop .s) (c .before .before .before .before .before .before .before .before .before .before .before .loop .inv) (c .before .before .before .before .before .before .before .before .before .if1 .taken) (c .before .confirmed .result) (its c))
 
 table-requires : tie.Need-table-requires Inv-loop μ-loop
 table-requires c κs = search needs
@@ -74,8 +74,8 @@ confirmed-requires : tie.Need-confirmed-requires Inv-loop μ-loop
 confirmed-requires c κs =
     λ t e. hinted (c .before .before .before .before .before .before .before .before .before .before .before .table .result) (c .before .before .before .before .before .before .before .before .before .before .before .table .ensures) t (c .before .before .hint .result) (in-table (c .before .before .before .before .before .before .before .before .before .before .before .table .result) (c .before .before .before .before .before .before .before .before .before .before .before .table .ensures) (c .before .before .hint .result) (c .before .before .hint .ensures)) _ e
 
-wide-requires : tie.Need-wide-requires Inv-loop μ-loop
-wide-requires c κs = search needs
+size-requires : tie.Need-size-requires Inv-loop μ-loop
+size-requires c κs = search needs
 
 add-end : tie.Need-add-end Inv-loop μ-loop
 add-end c = omega (arith, end c)
@@ -106,11 +106,11 @@ number-line-requires c κs =
     let d = c .before .before in
     let F = c .before .before .before .before .before .before .before .before .before .before .before .before .before .loop .inv in
     let b = F .bounded in
-    let e = c .before .before .before .before .before .before .before .before .before .before .before .before .before .loop .s .at + c .before .before .wide .result + 2 in
+    let e = c .before .before .before .before .before .before .before .before .before .before .before .before .before .loop .s .at + c .before .before .size .result + 2 in
     let line = mid-len (c .before .before .before .before .before .before .before .before .before .before .before .before .before .loop .s .at) e (c .before .before .before .before .before .before .before .before .before .before .before .before .before .before .before .before .before .before .args .file .now) (end d) in
     let part = mid-len (c .before .before .before .before .before .before .before .before .before .before .before .before .before .loop .s .at) e (c .before .before .before .before .before .before .before .before .before .before .before .before .before .loop .out) (omega (arith, end d, c .before .before .before .before .before .before .before .before .before .before .before .before .before .before .before .before .before .before .pre .1, F .same)) in
     let fit = room (c .before .before .before .before .before .before .before .before .before .before .before .before .before .before .before .before .before .before .args .file .now) (c .before .before .before .before .before .before .before .before .before .before .before .before .before .before .before .before .before .before .args .out .now) (c .before .before .before .before .before .before .before .before .before .before .before .before .before .loop .out) (c .before .before .before .before .before .before .before .before .before .before .before .before .before .loop .s) F (c .before .before .before .before .before .before .before .before .before .before .before .if1 .taken) (c .before .before .before .confirmed .result) (its d) in
-    (part ∙ sym line, (b .within, omega (arith, b .few, b .inside, c .before .before .before .before .before .before .before .before .before .before .before .before .before .before .before .before .before .before .pre .0 .short)), omega (arith, line, fit, c .before .before .wide .ensures))
+    (part ∙ sym line, (b .within, omega (arith, b .few, b .inside, c .before .before .before .before .before .before .before .before .before .before .before .before .before .before .before .before .before .before .pre .0 .short)), omega (arith, line, fit, c .before .before .size .ensures))
 
 behind-requires : tie.Need-behind-requires Inv-loop μ-loop
 behind-requires c κs =
@@ -118,16 +118,16 @@ behind-requires c κs =
     (omega (arith, b .inside, c .before .before .before .before .before .before .before .before .before .before .before .before .before .before .before .before .before .before .before .before .before .pre .0 .short), b .within, b .few)
 
 loop-less : tie.Need-loop-less Inv-loop μ-loop
-loop-less c = omega (arith, end (c .before .before .before .before .before .before), c .behind .ensures .at, c .before .before .before .before .before .before .wide .ensures)
+loop-less c = omega (arith, end (c .before .before .before .before .before .before), c .behind .ensures .at, c .before .before .before .before .before .before .size .ensures)
 
 loop-again : tie.Need-loop-again Inv-loop μ-loop
 loop-again c =
     let d = c .before .before .before .before .before .before in
     let F = c .before .before .before .before .before .before .before .before .before .before .before .before .before .before .before .before .before .loop .inv in
-    let e = c .before .before .before .before .before .before .before .before .before .before .before .before .before .before .before .before .before .loop .s .at + c .before .before .before .before .before .before .wide .result + 2 in
+    let e = c .before .before .before .before .before .before .before .before .before .before .before .before .before .before .before .before .before .loop .s .at + c .before .before .before .before .before .before .size .result + 2 in
     let part = mid-len (c .before .before .before .before .before .before .before .before .before .before .before .before .before .before .before .before .before .loop .s .at) e (c .before .before .before .before .before .before .before .before .before .before .before .before .before .before .before .before .before .loop .out) (omega (arith, end d, c .before .before .before .before .before .before .before .before .before .before .before .before .before .before .before .before .before .before .before .before .before .before .pre .1, F .same)) in
     filling-on (c .before .before .before .before .before .before .before .before .before .before .before .before .before .before .before .before .before .before .before .before .before .before .args .file .now) (c .before .before .before .before .before .before .before .before .before .before .before .before .before .before .before .before .before .before .before .before .before .before .args .out .now) (c .before .before .before .before .before .before .before .before .before .before .before .before .before .before .before .before .before .loop .out) (c .before .before .before .before .before .before .before .before .before .before .before .before .before .before .before .before .before .loop .s) F (c .before .before .before .before .before .before .before .before .before .before .before .before .before .before .before .if1 .taken) (c .before .before .before .before .before .before .before .confirmed .result) (its d)
-    e (ap (λ (n : ℕ). c .before .before .before .before .before .before .before .before .before .before .before .before .before .before .before .before .before .loop .s .at + n + 2) (c .before .before .before .before .before .before .wide .ensures)) (c .before .before .before .number-line .last .1 .0) (c .before .before .before .number-line .ensures)
+    e (ap (λ (n : ℕ). c .before .before .before .before .before .before .before .before .before .before .before .before .before .before .before .before .before .loop .s .at + n + 2) (c .before .before .before .before .before .before .size .ensures)) (c .before .before .before .number-line .last .1 .0) (c .before .before .before .number-line .ensures)
     (omega (arith, c .before .before .before .before .before .before .before .before .before .before .before .before .before .before .before .before .before .before .before .before .before .before .pre .1, F .same)) (c .before .before .before .number-line .kept .1 .0 ∙ part) _ (c .behind .ensures)
 
 same-length : tie.Need-same-length Inv-loop μ-loop
@@ -157,7 +157,7 @@ fill-spec =
     part-confirmed-start
     part-confirmed-end
     confirmed-requires
-    wide-requires
+    size-requires
     add-end
     add-end-2
     sub-number-line

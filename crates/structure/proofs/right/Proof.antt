@@ -6,8 +6,8 @@ use Rattle.structure.proofs.Turns.{right-at}
 use Rattle.structure.proofs.right.Statement.{statement}
 use Rattle.structure.proofs.right.Tie as tie
 
-wide-requires : tie.Need-wide-requires
-wide-requires c κs = search needs
+size-requires : tie.Need-size-requires
+size-requires c κs = search needs
 
 sub-if1 : tie.Need-sub-if1
 sub-if1 c = search needs
@@ -57,7 +57,7 @@ holds-requires c κs = search needs
 returns-2 : tie.Need-returns-2
 returns-2 c =
     let g = c .before .before .before .before .before .before .before .before .before .before .before .before .before .args in
-    right-at (g .file .now) (g .asked) (g .s) (g .row) (c .before .before .before .before .before .before .before .before .before .before .wide .result) (c .before .before .before .before .before .before .before .before .before .before .wide .ensures) _ refl
+    right-at (g .file .now) (g .asked) (g .s) (g .row) (c .before .before .before .before .before .before .before .before .before .before .size .result) (c .before .before .before .before .before .before .before .before .before .before .size .ensures) _ refl
     (c .before .before .before .before .before .before .before .before .before .before .before .before .before .pre .0 .inside) (c .before .before .before .before .before .before .before .before .before .if1 .left) (c .before .before .before .before .before .before .before .before .before .before .before .before .before .pre .2 .type)
     (c .before .before .before .before .is-type .result) (c .before .before .before .pair-at .result) (c .before .before .all-text .result) (c .before .follows .result) (c .holds .result)
     (c .before .before .before .before .is-type .ensures) (c .before .before .before .pair-at .ensures) (c .before .before .all-text .ensures) (c .before .follows .ensures) (c .holds .ensures)
@@ -66,7 +66,7 @@ pub right-spec : {M : Type 1} → statement M
 right-spec =
     tie.close
     (tie.spec
-    wide-requires
+    size-requires
     sub-if1
     add-if1
     returns

@@ -3,11 +3,11 @@ use borrow.Author.Needs.{needs}
 use Rattle.structure.proofs.shaped.Statement.{statement}
 use Rattle.structure.proofs.shaped.Tie as tie
 
-wide-requires : tie.Need-wide-requires
-wide-requires c κs = search needs
+size-requires : tie.Need-size-requires
+size-requires c κs = search needs
 
 returns : tie.Need-returns
-returns c = rw (c .wide .ensures)
+returns c = rw (c .size .ensures)
 
 pub shaped-spec : {M : Type 1} → statement M
-shaped-spec = tie.close (tie.spec wide-requires returns)
+shaped-spec = tie.close (tie.spec size-requires returns)
