@@ -1,4 +1,5 @@
--- The number and the place of each refusal.
+-- The number and the place of each refusal, and an answer as one number.
+use Prim.Native.Nat.{ℕ, _+_, _*_, _%_, _^_}
 use mathlib.Core.Bool.{Bool, true, false}
 use Rattle.format.specs.Structure.{Answer as FormatAnswer, refused, passed, mostRecords}
 use Rattle.answers.specs.declared.Answer.{Answer}
@@ -21,3 +22,8 @@ answerOf (Passed g t r) = passed g t r
 abbrev pub isPassed : FormatAnswer → Bool
 isPassed (refused n i) = false
 isPassed (passed g t r) = true
+
+-- the refusal's number above 32 bits for its place, which within the size limits needs far fewer; or the number of records
+abbrev pub packedOf : FormatAnswer → ℕ
+packedOf (refused n i) = n * 2 ^ 32 + i % 2 ^ 32
+packedOf (passed g t r) = r

@@ -1,7 +1,9 @@
 // What a call answers: a refusal, by its ground, or how many groups, transactions and records passed. specs/Numbers.antt gives each
 // case its number and place.
 ghost use mathlib.Core.Path.{_≡_};
-ghost use Rattle.answers.specs.Numbers.{answerOf, isPassed};
+ghost use Prim.Native.Nat.{_≤_};
+ghost use Rattle.format.specs.Structure.{refused};
+ghost use Rattle.answers.specs.Numbers.{answerOf, isPassed, packedOf};
 
 pub enum Answer {
     // 1, 2: the tolerance; which of the three tables.
@@ -23,6 +25,17 @@ pub enum Answer {
     Passed(u64, u64, u64),
 }
 
+// The most records that a file may have, and the place of the refusal of more.
+pub const MOST_RECORDS: usize = 131072;
+
+// A refusal by its number and place.
+fn refusal(number: u64, place: usize) -> u64
+    requires { ⌜ number ≤ 11 ⌝ }
+    ensures { λ r. ⌜ r ≡ packedOf (refused number place) ⌝ }
+{
+    number * 4294967296 + place as u64 % 4294967296
+}
+
 impl Answer {
     // Whether it is no refusal.
     pub fn passes(self) -> bool
@@ -31,6 +44,26 @@ impl Answer {
         match self {
             Answer::Passed(_, _, _) => true,
             _ => false,
+        }
+    }
+
+    // In one number.
+    pub fn packed(self) -> u64
+        ensures { λ r. ⌜ r ≡ packedOf (answerOf self) ⌝ }
+    {
+        match self {
+            Answer::Tolerance => refusal(1, 0),
+            Answer::Table(i) => refusal(2, i),
+            Answer::Long => refusal(3, 0),
+            Answer::Line(i) => refusal(4, i),
+            Answer::Many => refusal(5, MOST_RECORDS),
+            Answer::Shape(i) => refusal(6, i),
+            Answer::Place(i) => refusal(7, i),
+            Answer::Number(i) => refusal(8, i),
+            Answer::Total(i) => refusal(9, i),
+            Answer::Version => refusal(10, 0),
+            Answer::Short => refusal(11, 0),
+            Answer::Passed(_, _, records) => records,
         }
     }
 }

@@ -1,6 +1,7 @@
 // Refusals 3 to 10 over a lent file. A right file is decided by one walk that jumps from record to record by the rows' lengths. It
 // stops at the first doubt, and only then plain scans look for the refusal and its place, from there on.
 use answers::Answer;
+use answers::MOST_RECORDS;
 use kinds::DETAIL;
 use kinds::GRH;
 use kinds::GRT;
@@ -42,8 +43,6 @@ pub struct Met {
 }
 
 const MOST_BYTES: usize = 16777216;
-
-const MOST_RECORDS: usize = 131072;
 
 fn index(n: u64) -> usize
     ensures { λ r. ⌜ r ≡ n ⌝ }

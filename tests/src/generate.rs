@@ -1,0 +1,211 @@
+//! Made files. A file is a pure function of its seed: the seed chooses the
+//! kind, and seed and kind the bytes.
+
+pub mod boundary;
+pub mod damage;
+pub mod each;
+pub mod right;
+
+use crate::driver::Operation;
+use damage::{Damage, Hand};
+
+/// A small generator of random numbers (splitmix64).
+pub struct Random(u64);
+
+impl Random {
+    pub fn new(seed: u64) -> Random {
+        Random(seed)
+    }
+
+    pub fn draw(&mut self) -> u64 {
+        self.0 = self.0.wrapping_add(0x9E37_79B9_7F4A_7C15);
+        let mut z = self.0;
+        z = (z ^ (z >> 30)).wrapping_mul(0xBF58_476D_1CE4_E5B9);
+        z = (z ^ (z >> 27)).wrapping_mul(0x94D0_49BB_1331_11EB);
+        z ^ (z >> 31)
+    }
+
+    /// A number from 0 to `limit` minus 1.
+    pub fn below(&mut self, limit: usize) -> usize {
+        ((u128::from(self.draw()) * limit as u128) >> 64) as usize
+    }
+
+    /// A number from `low` to `high`, both possible.
+    pub fn between(&mut self, low: usize, high: usize) -> usize {
+        low + self.below(high - low + 1)
+    }
+
+    pub fn one_in(&mut self, times: usize) -> bool {
+        self.below(times) == 0
+    }
+
+    pub fn of<T: Copy>(&mut self, list: &[T]) -> T {
+        list[self.below(list.len())]
+    }
+
+    pub fn byte(&mut self) -> u8 {
+        self.below(256) as u8
+    }
+
+    /// A byte that may stand in a record.
+    pub fn text(&mut self) -> u8 {
+        self.between(32, 255) as u8
+    }
+
+    /// A byte that may not; CR and LF more often than the others.
+    pub fn control(&mut self) -> u8 {
+        match self.below(6) {
+            0 => b'\r',
+            1 => b'\n',
+            2 => self.of(&[0, 9, 26, 27, 31]),
+            _ => self.below(32) as u8,
+        }
+    }
+
+    /// A buffer's bytes before a call.
+    pub fn pattern(&mut self, length: usize) -> Vec<u8> {
+        let mut bytes = Vec::with_capacity(length + 8);
+        while bytes.len() < length {
+            bytes.extend_from_slice(&self.draw().to_le_bytes());
+        }
+        bytes.truncate(length);
+        bytes
+    }
+}
+
+/// A made file with the buffer that numbering is lent for it.
+pub struct Case {
+    pub seed: u64,
+    pub kind: String,
+    pub file: Vec<u8>,
+    /// The buffer as it is before the call.
+    pub out: Vec<u8>,
+    /// What is to be compared.
+    pub operations: &'static [Operation],
+}
+
+/// Smaller seeds are numbers of files that are made once each.
+const FIRST_SEED: u64 = 1 << 24;
+
+/// The seeds of a run of so many files; runs are numbered below 2^32. From
+/// `FILES_WITH_ONCE` on, the files that are made once are among them: the
+/// small ones first, since a difference is easiest to see in them, the large
+/// ones last.
+pub fn seeds(run: u64, files: u64) -> Vec<u64> {
+    let first = FIRST_SEED * (run + 1);
+    let at_random = |number: u64| first..first + number;
+    if files < FILES_WITH_ONCE {
+        return at_random(files).collect();
+    }
+    let (small, large) = (each::number(), boundary::number());
+    (each::FIRST..each::FIRST + small)
+        .chain(at_random(files - small - large))
+        .chain(0..large)
+        .collect()
+}
+
+/// Shorter runs have no files that are made once.
+pub const FILES_WITH_ONCE: u64 = 3000;
+
+/// The file of this seed; none where it is a number that no file has.
+pub fn case(seed: u64) -> Option<Case> {
+    match seed {
+        0..each::FIRST => return boundary::case(seed),
+        each::FIRST..FIRST_SEED => return each::case(seed),
+        _ => {}
+    }
+    let kind = kind(seed);
+    let mut random = Random::new(seed);
+    let file = file(&kind, &mut random);
+    let length = match random.below(20) {
+        0..=11 => file.len(),
+        12..=14 => file.len() + random.between(1, 64),
+        15 => file.len() + 1,
+        16 | 17 => file.len().saturating_sub(1),
+        18 => random.between(0, file.len()),
+        _ => 0,
+    };
+    Some(Case {
+        seed,
+        kind: kind.name(),
+        out: random.pattern(length),
+        file,
+        operations: &Operation::ALL,
+    })
+}
+
+/// How a file is made.
+pub enum Kind {
+    Right,
+    /// Right but for its number positions.
+    Unnumbered,
+    Damaged(Vec<&'static Damage>),
+}
+
+impl Kind {
+    pub fn name(&self) -> String {
+        match self {
+            Kind::Right => "right".to_string(),
+            Kind::Unnumbered => "right but for its numbers".to_string(),
+            Kind::Damaged(damages) => {
+                let names: Vec<_> = damages.iter().map(|d| d.name.as_str()).collect();
+                names.join(" + ")
+            }
+        }
+    }
+}
+
+/// The kind that a seed chooses.
+pub fn kind(seed: u64) -> Kind {
+    // Not the same numbers as the file's own.
+    let mut random = Random::new(seed ^ 0x6B69_6E64_6B69_6E64);
+    let damages = match random.below(100) {
+        0..=21 => return Kind::Right,
+        22..=33 => return Kind::Unnumbered,
+        34..=65 => 1,
+        // Several, since the order of the refusals matters.
+        _ => random.between(2, 4),
+    };
+    Kind::Damaged((0..damages).map(|_| damage::choose(&mut random)).collect())
+}
+
+/// The file of a kind.
+pub fn file(kind: &Kind, random: &mut Random) -> Vec<u8> {
+    let mut records = right::records(random);
+    match kind {
+        Kind::Right => join(&records),
+        Kind::Unnumbered => {
+            damage::unnumber(&mut records, random);
+            join(&records)
+        }
+        Kind::Damaged(damages) => {
+            // Numbers while the records stand in their places, then the
+            // places, then the records' form, the lines last.
+            let mut damages = damages.clone();
+            damages.sort_by_key(|damage| std::cmp::Reverse(damage.family));
+            for damage in &damages {
+                damage.to_records(&mut records, random);
+            }
+            let mut file = join(&records);
+            for damage in &damages {
+                if let Hand::Bytes(hand) = &damage.hand {
+                    hand(&mut file, random);
+                }
+            }
+            file
+        }
+    }
+}
+
+/// The records with a CR LF after each.
+pub fn join(records: &[Vec<u8>]) -> Vec<u8> {
+    let mut file = Vec::with_capacity(records.iter().map(|r| r.len() + 2).sum());
+    for record in records {
+        file.extend_from_slice(record);
+        file.extend_from_slice(b"\r\n");
+    }
+    file
+}
+
+#[cfg(test)]
+mod tests;
