@@ -90,16 +90,16 @@ module _ (f : Bytes) (asked : Bool) (s : Stand) (row : Row) (next : Stand) where
 module _ (r : Bytes) (row : Row) (its : row ≡ rowFor (take 3 r)) (asked : Bool) (m : Faults) (p : Class) (n : Counts) where
   pub faults-more : (f : Faults) (follows held : Bool)
       → follows ≡ mayFollow p (classAt (row .place))
-      → held ≡ sameBytes (slot (classAt (row .place)) r) (expected n (classAt (row .place)))
+      → held ≡ (not asked || sameBytes (slot (classAt (row .place)) r) (expected n (classAt (row .place))))
       → f .seven ≡ orElse (m .seven) (unless follows (n .records))
-      → f .eight ≡ orElse (m .eight) (unless (eqb 4 (row .place) || eqb 5 (row .place) || (not asked || held)) (n .records))
-      → f .nine ≡ orElse (m .nine) (unless (not (eqb 4 (row .place) || eqb 5 (row .place)) || (not asked || held)) (n .records))
+      → f .eight ≡ orElse (m .eight) (unless (eqb 4 (row .place) || eqb 5 (row .place) || held) (n .records))
+      → f .nine ≡ orElse (m .nine) (unless (not (eqb 4 (row .place) || eqb 5 (row .place)) || held) (n .records))
       → f ≡ moreFaults cwr22 asked m p n r
   unfolding moreFaults
   faults-more f follows held a b x y z =
       let c = row-class r row its in
       let s : f .seven ≡ orElse (m .seven) (unless (mayFollow p (cls cwr22 r)) (n .records)) = x ∙ rw (a, c) in
-      let h : held ≡ numbered cwr22 n r = b ∙ rw c in
+      let h : held ≡ (not asked || numbered cwr22 n r) = b ∙ rw c in
       let e : f .eight ≡ orElse (m .eight) (unless (not asked || ok8 cwr22 n r) (n .records)) =
       y ∙ rw (row-code r row its, h, or-swap (closes (cls cwr22 r)) (not asked) (numbered cwr22 n r)) in
       let g : f .nine ≡ orElse (m .nine) (unless (not asked || ok9 cwr22 n r) (n .records)) =
@@ -123,10 +123,10 @@ module _ (f : Bytes) (asked : Bool) (s : Stand) (row : Row) where
       → pair ≡ beginsPair (drop (s .at + l) f)
       → text ≡ every isText r
       → follows ≡ mayFollow (classAt (s .place)) (classAt (row .place))
-      → numbers ≡ sameBytes (slot (classAt (row .place)) r) (expected (tally (s .counts)) (classAt (row .place)))
-      → (type && pair && text && follows && (not asked || numbers)) ≡ true → RightAt f asked s row
+      → numbers ≡ (not asked || sameBytes (slot (classAt (row .place)) r) (expected (tally (s .counts)) (classAt (row .place))))
+      → (type && pair && text && follows && numbers) ≡ true → RightAt f asked s row
   right-at l e r part inside fits three type pair text follows numbers a b x y z q =
-      let (q4, n) = ands (type && pair && text && follows) (not asked || numbers) q in
+      let (q4, n) = ands (type && pair && text && follows) numbers q in
       let (q3, w) = ands (type && pair && text) follows q4 in
       let (q2, t) = ands (type && pair) text q3 in
       let (k, p) = ands type pair q2 in
@@ -136,7 +136,7 @@ module _ (f : Bytes) (asked : Bool) (s : Stand) (row : Row) where
         text = rw (← whole) (sym x ∙ t);
         pair = rw (← e) (sym b ∙ p);
         follows = sym y ∙ w;
-        numbers = rw (← whole, ← z) n;
+        numbers = rw (← whole) (sym z ∙ n);
       }
     where
       whole : r ≡ take (row .length) (drop (s .at) f)

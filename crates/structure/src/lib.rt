@@ -13,18 +13,20 @@ use kinds::UNKNOWN;
 use lines::Scan;
 use numbers::Counts;
 ghost use mathlib.Core.Path.{_≡_};
-ghost use mathlib.Core.Bool.{Bool, true, cond, not, _&&_};
+ghost use mathlib.Core.Bool.{Bool, true, cond, not, _&&_, _||_};
 ghost use Prim.Native.Nat.{_+_, _≤_, _<_};
 ghost use lib.Dec.{eqb};
 ghost use lib.ListN.{length, take, drop};
+ghost use Rattle.format.specs.Bytes.{sameBytes};
+ghost use Rattle.format.specs.Table.{at, width};
 ghost use Rattle.format.specs.Cwr22.{cwr22, version22};
 ghost use Rattle.format.specs.Lines.{lines};
-ghost use Rattle.format.specs.Checks.{classAt, mayFollow, typed};
+ghost use Rattle.format.specs.Checks.{classAt, mayFollow, slot, expected, typed};
 ghost use Rattle.format.specs.Structure.{unless, mostBytes, structure};
 ghost use Rattle.format.specs.Numbering.{numbering, recordsIn};
 ghost use Rattle.answers.specs.Numbers.{answerOf};
 ghost use Rattle.kinds.specs.Rows.{rowFor};
-ghost use Rattle.numbers.specs.Tally.{tally, Within};
+ghost use Rattle.numbers.specs.Tally.{tally, Within, Room};
 ghost use Rattle.structure.specs.Rest.{orElse, faultless, judgedFrom, restFrom, moreFaults, atEnd, isGood};
 ghost use Rattle.structure.specs.Walk.{Roomy, Bounded, Stood, RightAt, Next, met, faultsOf};
 
@@ -86,6 +88,18 @@ pub fn behind(s: Stand, row: Row) -> Stand
     }
 }
 
+// Whether the record carries its numbers, where they are asked for.
+fn numbered(asked: bool, counts: Counts, place: u8, record: &[u8]) -> bool
+    requires { ⌜ (Room counts) × (at (classAt place) + width (classAt place) ≤ length (now «record»)) ⌝ }
+    ensures { λ r. ⌜ r ≡ (not asked || sameBytes (slot (classAt place) (now («record» .entry))) (expected (tally counts) (classAt place))) ⌝ }
+{
+    if asked {
+        counts.holds(place, record)
+    } else {
+        true
+    }
+}
+
 // ---- the walk
 
 // Whether the record of that row which stands here is whole, and right in all that is asked. Only a yes says anything.
@@ -105,7 +119,7 @@ fn right(file: &[u8], asked: bool, s: Stand, row: Row) -> bool
         & lines::pair_at(file, end)
         & lines::all_text(record)
         & follows(s.place, row.place)
-        & (!asked | counts.holds(row.place, record))
+        & numbered(asked, counts, row.place, record)
 }
 
 // How far a file is right.
@@ -162,7 +176,7 @@ fn more(asked: bool, s: Stand, m: Met, record: &[u8], row: Row) -> Met
 {
     let counts = s.counts;
     let n = counts.records;
-    let held = !asked | counts.holds(row.place, record);
+    let held = numbered(asked, counts, row.place, record);
     let closes = (GRT == row.place) | (TRL == row.place);
     Met {
         seven: first(m.seven, follows(s.place, row.place), n),

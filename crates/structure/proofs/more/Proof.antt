@@ -9,8 +9,8 @@ use Rattle.structure.proofs.Turns.{faults-more}
 use Rattle.structure.proofs.more.Statement.{statement}
 use Rattle.structure.proofs.more.Tie as tie
 
-holds-requires : tie.Need-holds-requires
-holds-requires c κs =
+numbered-requires : tie.Need-numbered-requires
+numbered-requires c κs =
     let g = c .before .before .args in
     ((c .before .before .pre .0 .1, omega arith), row-room (g .«record» .now) (g .row) (c .before .before .pre .1 .0) (c .before .before .pre .1 .1))
 
@@ -30,14 +30,14 @@ returns : tie.Need-returns
 returns c =
     let g = c .before .before .before .before .before .before .before .before .before .args in
     faults-more (g .«record» .now) (g .row) (c .before .before .before .before .before .before .before .before .before .pre .1 .0) (g .asked) (faultsOf (g .m)) (classAt (g .s .place)) (tally (g .s .counts)) _
-    (c .before .before .before .follows .result) (c .before .before .before .before .before .before .holds .result) (c .before .before .before .follows .ensures) (c .before .before .before .before .before .before .holds .ensures)
+    (c .before .before .before .follows .result) (c .before .before .before .before .before .before .numbered .result) (c .before .before .before .follows .ensures) (c .before .before .before .before .before .before .numbered .ensures)
     (c .before .before .first .ensures) (c .before .first2 .ensures) (c .first3 .ensures)
 
 pub more-spec : {M : Type 1} → statement M
 more-spec =
     tie.close
     (tie.spec
-    holds-requires
+    numbered-requires
     follows-requires
     first-requires
     first-requires-2

@@ -51,16 +51,16 @@ all-text-requires c κs = search needs
 follows-requires : tie.Need-follows-requires
 follows-requires c κs = search needs
 
-holds-requires : tie.Need-holds-requires
-holds-requires c κs = search needs
+numbered-requires : tie.Need-numbered-requires
+numbered-requires c κs = search needs
 
 returns-2 : tie.Need-returns-2
 returns-2 c =
     let g = c .before .before .before .before .before .before .before .before .before .before .before .before .before .args in
     right-at (g .file .now) (g .asked) (g .s) (g .row) (c .before .before .before .before .before .before .before .before .before .before .size .result) (c .before .before .before .before .before .before .before .before .before .before .size .ensures) _ refl
     (c .before .before .before .before .before .before .before .before .before .before .before .before .before .pre .0 .inside) (c .before .before .before .before .before .before .before .before .before .if1 .left) (c .before .before .before .before .before .before .before .before .before .before .before .before .before .pre .2 .type)
-    (c .before .before .before .before .is-type .result) (c .before .before .before .pair-at .result) (c .before .before .all-text .result) (c .before .follows .result) (c .holds .result)
-    (c .before .before .before .before .is-type .ensures) (c .before .before .before .pair-at .ensures) (c .before .before .all-text .ensures) (c .before .follows .ensures) (c .holds .ensures)
+    (c .before .before .before .before .is-type .result) (c .before .before .before .pair-at .result) (c .before .before .all-text .result) (c .before .follows .result) (c .numbered .result)
+    (c .before .before .before .before .is-type .ensures) (c .before .before .before .pair-at .ensures) (c .before .before .all-text .ensures) (c .before .follows .ensures) (c .numbered .ensures)
 
 pub right-spec : {M : Type 1} → statement M
 right-spec =
@@ -81,5 +81,5 @@ right-spec =
     pair-at-requires
     all-text-requires
     follows-requires
-    holds-requires
+    numbered-requires
     returns-2)
