@@ -189,7 +189,14 @@ fn pair_stands(t: u64, r: u64, record: &[u8], start: usize) -> bool
     requires { ⌜ (1 ≤ start) × (start - 1 + (8 + 8) ≤ length (now «record»)) ⌝ }
     ensures { λ s. ⌜ s ≡ sameBytes (fieldOf start (8 + 8) (now («record» .entry))) (pair t r) ⌝ }
 {
-    stands(t, record, start, 8) & stands(r, record, start + 8, 8)
+    eight_stand(t, record, start) & eight_stand(r, record, start + 8)
+}
+
+fn eight_stand(n: u64, record: &[u8], start: usize) -> bool
+    requires { ⌜ (1 ≤ start) × (start - 1 + 8 ≤ length (now «record»)) ⌝ }
+    ensures { λ r. ⌜ r ≡ sameBytes (fieldOf start 8 (now («record» .entry))) (decimal 8 n) ⌝ }
+{
+    text::is_eight(n, text::field(record, start, 8))
 }
 
 fn write_pair(t: u64, r: u64, out: &mut [u8], start: usize)

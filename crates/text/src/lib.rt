@@ -1,7 +1,7 @@
 // The bytes of a field: the part of a record that a field is, what it may hold, and numbers read from it and written into it.
 ghost use mathlib.Core.Path.{_≡_};
 ghost use mathlib.Core.List.{[], _∷_};
-ghost use Prim.Native.Nat.{_+_, _-_, _^_, _<_, _≤_};
+ghost use Prim.Native.Nat.{_+_, _-_, _%_, _^_, _<_, _≤_};
 ghost use lib.ListN.{length};
 ghost use Rattle.format.specs.Bytes.{sameBytes, decimal};
 ghost use Rattle.format.specs.Fields.{fieldOf, isBlank, isDigit, areDigits, digit, numberOf};
@@ -128,4 +128,32 @@ pub fn is_decimal(n: u64, part: &[u8]) -> bool
         rest = rest / 10;
     }
     same
+}
+
+// The last digit of n, as a byte.
+fn last_digit(n: u64) -> u8
+    ensures { λ r. ⌜ r ≡ 48 + n % 10 ⌝ }
+{
+    48 + (n % 10) as u8
+}
+
+// is_decimal of eight digits, no one of which waits for another: nearly every record has two such numbers.
+pub fn is_eight(n: u64, part: &[u8]) -> bool
+    requires { ⌜ length (now part) ≡ 8 ⌝ }
+    ensures { λ r. ⌜ r ≡ sameBytes (now (part .entry)) (decimal 8 n) ⌝ }
+{
+    let a = n / 10;
+    let b = a / 10;
+    let c = b / 10;
+    let d = c / 10;
+    let e = d / 10;
+    let f = e / 10;
+    let g = f / 10;
+    (part[0] == last_digit(g))
+        & ((part[1] == last_digit(f))
+            & ((part[2] == last_digit(e))
+                & ((part[3] == last_digit(d))
+                    & ((part[4] == last_digit(c))
+                        & ((part[5] == last_digit(b))
+                            & ((part[6] == last_digit(a)) & (part[7] == last_digit(n))))))))
 }
