@@ -24,7 +24,7 @@ use Rattle.structure.specs.Rest.{isGood}
 use Rattle.structure.specs.Walk.{Bounded, Next}
 use Rattle.structure.specs.declared.Stand.{Stand}
 use Rattle.structure.proofs.Rows.{row-six}
-use Rattle.structure.proofs.Turns.{bounded-on}
+use Rattle.structure.proofs.Turns.{bounded-start, bounded-on}
 use Rattle.structure.proofs.Here.{recordAt, fits, here-three, long, records-here, fine-behind, all-behind, line-here, row-size, row-numbers, row-is}
 use Rattle.numbering.specs.Fill.{Sized}
 
@@ -90,7 +90,7 @@ pub filling-start : (f old : Bytes) → Sized f → (n : CodeCounts) → tally n
 unfolding numberedFile
 filling-start f old s n e w z =
     record {
-      bounded = record { inside = omega arith; place = omega arith; within = w; few = omega (arith, z) };
+      bounded = bounded-start f n w z;
       fine = s .fine;
       all = s .typed;
       same = refl;
@@ -107,17 +107,17 @@ filling-end f old out s F h =
 
 -- three bytes stand there, at the least
 pub three-bytes : (f old out : Bytes) (s : Stand) → Filling f old out s → s .at < length f → s .at + 3 ≤ length f
-three-bytes f old out s F here = omega (arith, here-three f (s .at) here (F .fine) (F .all), fits f (s .at) here (F .fine) (F .all))
+three-bytes f old out s F here = omega (arith, here-three f (s .at) here (F .fine) (F .all), fits f (s .at) here (F .fine))
 
 module _ (f old out : Bytes) (s : Stand) (F : Filling f old out s) (here : s .at < length f) (row : Row) (its : row ≡ rowFor (take 3 (drop (s .at) f))) where
   pub size : row .length ≡ textLength (drop (s .at) f)
   size = row-size f (s .at) here (F .fine) (F .all) row its
 
   pub ends : s .at + row .length + 2 ≤ length f
-  ends = rw size (fits f (s .at) here (F .fine) (F .all))
+  ends = rw size (fits f (s .at) here (F .fine))
 
   pub room : at (classAt (row .place)) + width (classAt (row .place)) ≤ row .length
-  room = omega (arith, row-numbers f (s .at) here (F .fine) (F .all) row its, long f (s .at) here (F .fine) (F .all), size)
+  room = omega (arith, row-numbers f (s .at) here (F .fine) (F .all) row its, long f (s .at) here (F .fine), size)
 
   class-here : classAt (row .place) ≡ cls cwr22 (recordAt f (s .at))
   class-here = row-is f (s .at) here (F .fine) (F .all) row its
@@ -131,7 +131,7 @@ module _ (f old out : Bytes) (s : Stand) (F : Filling f old out s) (here : s .at
     line : ys ≡ put (start (cls cwr22 (recordAt f (s .at)))) (expected (tally (s .counts)) (cls cwr22 (recordAt f (s .at)))) (cut (cls cwr22 (recordAt f (s .at))) (recordAt f (s .at))) ++ 13 ∷ 10 ∷ []
     line =
         let n : e - s .at ≡ textLength (drop (s .at) f) + 2 = omega (arith, next-here) in
-        let whole = rw (n, line-here f (s .at) here (F .fine) (F .all)) at w in
+        let whole = rw (n, line-here f (s .at) here (F .fine)) at w in
         whole
         ∙ line-numbered (recordAt f (s .at)) (classAt (row .place)) (expected (tally (s .counts)) (classAt (row .place))) (row-numbers f (s .at) here (F .fine) (F .all) row its)
         ∙ rw class-here
@@ -140,14 +140,14 @@ module _ (f old out : Bytes) (s : Stand) (F : Filling f old out s) (here : s .at
     owed-on =
         rw (class-here, next-here)
         (owed-turn (take (s .at) out) ys (tally (s .counts)) (recordAt f (s .at)) (recordsIn (lines (drop (s .at + textLength (drop (s .at) f) + 2) f))) (numberedFile cwr22 f) line
-        (rw (records-here f (s .at) here (F .fine) (F .all)) at (F .owed)))
+        (rw (records-here f (s .at) here (F .fine)) at (F .owed)))
 
     pub filling-on : length f ≤ length out → length ys ≡ e - s .at → (next : Stand) → Next s (row .length) (row .place) next
         → Filling f old (putMid (s .at) (e - s .at) out ys) next
     filling-on g l next x =
         record {
           bounded = bounded-on f true s row next (F .bounded) (row-six (drop (s .at) f) row its) ends x;
-          fine = rw (there, next-here) (fine-behind f (s .at) here (F .fine) (F .all));
+          fine = rw (there, next-here) (fine-behind f (s .at) here (F .fine));
           all = rw (there, next-here) (all-behind f (s .at) here (F .fine) (F .all));
           same = length-written out ys (s .at) e inside fit l ∙ F .same;
           owed = rw (there, x .counts, written out ys (s .at) e inside fit l) owed-on;

@@ -3,6 +3,6 @@ pub mod Rows
 pub mod Follow
 pub mod Faults
 pub mod Turns
-pub mod Search
 pub mod Here
+pub mod Search
 pub mod Whole

@@ -150,13 +150,12 @@ module _ (f : Bytes) (asked : Bool) (s : Stand) (row : Row) where
 
 -- ---- the walk's start, and its turn with a row of the table
 
+pub bounded-start : (f : Bytes) (n : CodeCounts) → Within n → n .records ≡ 0 → Bounded f (record { at = 0; place = 6; counts = n })
+bounded-start f n w z = record { inside = omega arith; place = omega arith; within = w; few = omega (arith, z) }
+
 pub stood-start : (f : Bytes) (asked : Bool) (n : CodeCounts) → tally n ≡ zeros → Within n → n .records ≡ 0
     → Stood f asked (record { at = 0; place = 6; counts = n })
-stood-start f asked n e w z =
-    record {
-      bounded = record { inside = omega arith; place = omega arith; within = w; few = omega (arith, z) };
-      rest = λ version. rw e;
-    }
+stood-start f asked n e w z = record { bounded = bounded-start f n w z; rest = λ version. rw e }
 
 module _ (l : List Row) (table : l ≡ kinds) (k : ℕ) (few : k < 38) (d : Row) where
   pub stood-by : (f : Bytes) (asked : Bool) (s next : Stand) → Stood f asked s → RightAt f asked s (getD l k d)

@@ -19,7 +19,7 @@ use Rattle.lines.specs.Scan.{textLength, scanned}
 use Rattle.lines.specs.declared.Scan.the-variants as scan
 use Rattle.structure.specs.Rest.{faultless, judgedFrom, linesFrom, restFrom, isGood}
 use Rattle.structure.proofs.Rest.{whole, structure-whole, numbering-whole}
-use Rattle.structure.proofs.Search.{good-first}
+use Rattle.structure.proofs.Here.{good-first}
 
 -- ---- 4 and 5, by what the scan over the lines answers
 
