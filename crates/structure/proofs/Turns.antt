@@ -3,7 +3,7 @@ use Prim.Native.Nat.{ℕ, _+_, _-_, _≤_, _<_}
 use native.Mathlib.Nat.{add-assoc}
 use native.Mathlib.Omega.{arith}
 use mathlib.Core.Path.{_≡_, sym, ap, _∙_}
-use mathlib.Core.Bool.{Bool, true, not, _&&_, _||_, and-eq-true-iff}
+use mathlib.Core.Bool.{Bool, true, not, _&&_, _||_}
 use mathlib.Core.Option.{Option}
 use mathlib.Core.List.{List, [], _∷_}
 use lib.ListN.{length, take, drop, getD, length-drop}
@@ -17,6 +17,7 @@ use Rattle.format.specs.Checks.{Counts, zeros, count, classAt, cls, typed, mayF
 use Rattle.format.specs.Structure.{unless}
 use Rattle.kinds.specs.Rows.{kinds, rowFor, typeOf}
 use Rattle.kinds.specs.declared.Row.{Row}
+use Rattle.kinds.proofs.Tests.{both}
 use Rattle.kinds.proofs.Laws.{first-three, hinted}
 use Rattle.lines.proofs.Laws.{every-text, pair-behind}
 use Rattle.numbers.specs.Tally.{tally, Within}
@@ -112,9 +113,6 @@ module _ (r : Bytes) (row : Row) (its : row ≡ rowFor (take 3 r)) (asked : Bool
 
 -- ---- what a yes of all tests says
 
-ands : (a b : Bool) → (a && b) ≡ true → (a ≡ true) × (b ≡ true)
-ands a b e = and-eq-true-iff a b .0 e
-
 module _ (f : Bytes) (asked : Bool) (s : Stand) (row : Row) where
   pub right-at : (l : ℕ) → l ≡ row .length → (r : Bytes) → r ≡ take (s .at + l - s .at) (drop (s .at) f)
       → s .at ≤ length f → l + 2 ≤ length f - s .at → 3 ≤ row .length
@@ -126,10 +124,10 @@ module _ (f : Bytes) (asked : Bool) (s : Stand) (row : Row) where
       → numbers ≡ (not asked || sameBytes (slot (classAt (row .place)) r) (expected (tally (s .counts)) (classAt (row .place))))
       → (type && pair && text && follows && numbers) ≡ true → RightAt f asked s row
   right-at l e r part inside fits three type pair text follows numbers a b x y z q =
-      let (q4, n) = ands (type && pair && text && follows) numbers q in
-      let (q3, w) = ands (type && pair && text) follows q4 in
-      let (q2, t) = ands (type && pair) text q3 in
-      let (k, p) = ands type pair q2 in
+      let (q4, n) = both (type && pair && text && follows) numbers q in
+      let (q3, w) = both (type && pair && text) follows q4 in
+      let (q2, t) = both (type && pair) text q3 in
+      let (k, p) = both type pair q2 in
       record {
         fits = omega (arith, e);
         type = sym (ap (sameBytes (typeOf row)) front) ∙ sym a ∙ k;
