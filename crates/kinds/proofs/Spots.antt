@@ -6,8 +6,8 @@ use mathlib.Core.Bool.{Bool, true, false, _&&_, and-false, false≢true}
 use mathlib.Core.List.{List, [], _∷_}
 use lib.Dec.{eqb}
 use borrow.Author.Tests.{eqb-true}
-use Rattle.format.specs.Bytes.{Bytes, every, sameBytes}
-use Rattle.format.specs.Stages.{Spot, spot, Stage, stage, among, inBrackets, spotsIn, spotsFrom, amongAny, beginsAny}
+use Rattle.format.specs.Bytes.{Bytes, every, sameBytes, among}
+use Rattle.format.specs.Stages.{Spot, spot, Stage, stage, inBrackets, spotsIn, spotsFrom, amongAny, beginsAny}
 use Rattle.kinds.proofs.Tests.{by-cases, both, same→eq}
 
 unfoldable pub sameSpots : List Spot → List Spot → Bool
