@@ -11,7 +11,7 @@ is24 r = isType "TER" r || isType "IPA" r || isType "NPA" r || isType "MSG" r
 
 -- RR: title of EWT or VER, or last name of PER, blank
 unfoldable pub is43 : Bytes → Bool
-is43 r = (isType "EWT" r || isType "VER" r) && isBlank (fieldOf 20 60 r) || isType "PER" r && isBlank (fieldOf 20 45 r)
+is43 r = ((isType "EWT" r || isType "VER" r) && isBlank (fieldOf 20 60 r)) || (isType "PER" r && isBlank (fieldOf 20 45 r))
 
 -- ---- REC
 

@@ -70,7 +70,7 @@ is26 r = isType "SPU" r && isBlank (partyNumber r)
 
 -- P4, TR: name blank where SPU, or OPU whose indicator isn't Y
 unfoldable pub is27 : Bytes → Bool
-is27 r = (isType "SPU" r || isType "OPU" r && not (sameBytes (ascii "Y") (indicator r))) && isBlank (name r)
+is27 r = (isType "SPU" r || (isType "OPU" r && not (sameBytes (ascii "Y") (indicator r)))) && isBlank (name r)
 
 -- P5 and P6, TR: SPU type not in the table
 unfoldable pub is28 : Bytes → Bool
