@@ -1,12 +1,16 @@
 -- The theorems at the table of CWR 2.2. Assumes nothing.
 use Rattle.format.specs.Cwr22.{cwr22}
-use Rattle.format.specs.Claims.{Demand3, Numbers, Fits}
+use Rattle.format.specs.Claims.{Demand3, Grows, Numbers, Fits}
 use Rattle.format.proofs.Demand3.{demand3}
+use Rattle.format.proofs.Branches.{grows}
 use Rattle.format.proofs.Numbering.{numbers}
 use Rattle.format.proofs.Fits.{fits}
 
 pub demand3-22 : Demand3 cwr22
 demand3-22 = demand3 cwr22
+
+pub grows-22 : Grows cwr22
+grows-22 = grows cwr22
 
 pub numbers-22 : Numbers cwr22
 numbers-22 = numbers cwr22

@@ -28,7 +28,7 @@ firstItem (item c s ∷ ss) = s
 module _ (𝕋 : Table) where
   -- ---- from the records of a file to its content
 
-  pub docOf : List Bytes → Doc
+  unfoldable pub docOf : List Bytes → Doc
   docOf rs = build (map (held 𝕋) rs)
 
   pub records-tree : (rs : List Bytes) → Placed 𝕋 rs → Tree (map (held 𝕋) rs) (docOf rs)
@@ -117,17 +117,27 @@ module _ (𝕋 : Table) where
 
   -- ---- the four parts of the demand
 
-  pub passes-content : (f : Bytes) (g t n : ℕ) → structure 𝕋 f ≡ passed g t n → Content 𝕋 f
-  unfolding structure write
-  passes-content f g t n e =
-      let r = file-read (judged 𝕋) f g t n e in
-      let h = lines-good f (r .rs) (r .is-lines) in
-      let a = answer-judged 𝕋 (r .rs) g t n (r .is-judged) in
-      (docOf (r .rs), records-wellformed (r .rs) (h .1) (a .in-place), ap unlines (records-written (r .rs) (h .1) a) ∙ h .0)
-
   pub passes-limits : (f : Bytes) (g t n : ℕ) → structure 𝕋 f ≡ passed g t n → Limits f
   unfolding structure
   passes-limits f g t n e = file-read (judged 𝕋) f g t n e .limits
+
+  module _ (f : Bytes) (rs : List Bytes) (is-lines : lines f ≡ good rs) where
+    pub passes-accepted : (g t n : ℕ) → structure 𝕋 f ≡ passed g t n → Accepted 𝕋 rs
+    unfolding structure
+    passes-accepted g t n e = answer-judged 𝕋 rs g t n (sym (file-judged (judged 𝕋) f rs is-lines (passes-limits f g t n e)) ∙ e)
+
+    pub accepted-content : Accepted 𝕋 rs → WellFormed 𝕋 (docOf rs) × (write (docOf rs) ≡ f)
+    unfolding write
+    accepted-content a =
+        let h = lines-good f rs is-lines in
+        (records-wellformed rs (h .1) (a .in-place), ap unlines (records-written rs (h .1) a) ∙ h .0)
+
+  pub passes-content : (f : Bytes) (g t n : ℕ) → structure 𝕋 f ≡ passed g t n → Content 𝕋 f
+  unfolding structure
+  passes-content f g t n e =
+      let r = file-read (judged 𝕋) f g t n e in
+      let (w, b) = accepted-content f (r .rs) (r .is-lines) (answer-judged 𝕋 (r .rs) g t n (r .is-judged)) in
+      (docOf (r .rs), w, b)
 
   pub content-passes : (f : Bytes) → Limits f → (c : Content 𝕋 f) → structure 𝕋 f ≡ lengths (c .0)
   content-passes f l c = rw (← c .2) (write-passes (c .0) (c .1) (rw (c .2) l))

@@ -7,6 +7,8 @@ pub mod Tree
 pub mod Written
 pub mod Answers
 pub mod Demand3
+pub mod Branches
+pub mod Walks
 pub mod Numbering
 pub mod Fits
 pub mod At22

@@ -8,8 +8,10 @@ use Rattle.format.specs.Bytes.{Bytes, pairs, unlines}
 use Rattle.format.specs.Doc.{Doc, write, transactionsOf, recordsAll}
 use Rattle.format.specs.Table.{Class, hdr, grh, head, detail, grt, trl, unknown, Table}
 use Rattle.format.specs.WellFormed.{Item, item, items, WellFormed, Loose}
+use Rattle.format.specs.Lines.{good, lines}
 use Rattle.format.specs.Checks.{Counts, zeros, count}
 use Rattle.format.specs.Structure.{Answer, passed, refused, mostBytes, mostRecords, structure}
+use Rattle.format.specs.Tree.{tree, leaves, numberless}
 use Rattle.format.specs.Numbering.{numbering, numberedFile}
 
 -- the size limits, 3 and 5: a record is the text before a CR LF
@@ -40,6 +42,16 @@ pub record Demand3 (𝕋 : Table) : Type 0 where
   pub else-refused : (f : Bytes) → Limits f → Refused 𝕋 f ↔ (Content 𝕋 f → ⊥)
   -- the counts are the lengths of that one list
   pub counts : (d : Doc) → WellFormed 𝕋 d → Limits (write d) → structure 𝕋 (write d) ≡ lengths d
+
+-- the tree of a file that passes: its leaves are the file's records, and it has the file's counts; with the number positions cut out it is
+-- the one list of demand 3
+pub record Grown (𝕋 : Table) (f : Bytes) (rs : List Bytes) (counts : Answer) : Type 0 where
+  pub same-leaves : leaves (tree 𝕋 rs) ≡ rs
+  pub same-counts : lengths (tree 𝕋 rs) ≡ counts
+  pub content : WellFormed 𝕋 (numberless (tree 𝕋 rs)) × (write (numberless (tree 𝕋 rs)) ≡ f)
+
+abbrev pub Grows : Table → Type 0
+Grows 𝕋 = (f : Bytes) (rs : List Bytes) (g t n : ℕ) → lines f ≡ good rs → structure 𝕋 f ≡ passed g t n → Grown 𝕋 f rs (passed g t n)
 
 -- each number that a record of the class carries has its decimal digits within its width
 abbrev pub Fit : Counts → Class → Type 0

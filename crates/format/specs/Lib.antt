@@ -9,5 +9,6 @@ pub mod WellFormed
 pub mod Lines
 pub mod Checks
 pub mod Structure
+pub mod Tree
 pub mod Numbering
 pub mod Claims

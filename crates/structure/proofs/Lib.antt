@@ -6,3 +6,4 @@ pub mod Turns
 pub mod Here
 pub mod Search
 pub mod Whole
+pub mod Cursor

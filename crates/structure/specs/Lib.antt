@@ -1,2 +1,3 @@
 pub mod Rest
 pub mod Walk
+pub mod Cursor
