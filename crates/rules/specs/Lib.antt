@@ -6,3 +6,8 @@ pub mod Publisher
 pub mod Writer
 pub mod Other
 pub mod Findings
+pub mod Totals
+pub mod Writers
+pub mod Order
+pub mod Chains
+pub mod Works
