@@ -95,7 +95,7 @@ all-fit = refl
 
 -- the row found for t is that of no type, or is of the type t and passes each test that all rows pass
 module _ (C : FormatRow → Type 0) (p : FormatRow → Bool) (t : Bytes) (found : (n : ℕ) (c : Class) → p (row t n c) ≡ true → C (row t n c)) where
-  row-cases : (fs : List FormatRow) → every p fs ≡ true → (rowOf fs t ≡ noType → C (noType)) → C (rowOf fs t)
+  pub row-cases : (fs : List FormatRow) → every p fs ≡ true → (rowOf fs t ≡ noType → C (noType)) → C (rowOf fs t)
   row-cases [] q none = none refl
   row-cases (row u n c ∷ fs) q none =
       let pq = both (p (row u n c)) (every p fs) q in

@@ -38,16 +38,27 @@ taken p type = firstFit (mayTake type p) (spots type)
 abbrev pub outset : Spot
 outset = spot 0 0
 
--- where the types lead from a spot; nowhere, where one may take none
+-- the next record's type taken from where the types before have led; nowhere, where one could take no spot
+abbrev pub on : Option Spot → Bytes → Option Spot
+on none type = none
+on (some p) type = taken p type
+
 abbrev pub walk : Option Spot → List Bytes → Option Spot
 walk p [] = p
-walk none (t ∷ ts) = none
-walk (some p) (t ∷ ts) = walk (taken p t) ts
+walk p (t ∷ ts) = walk (on p t) ts
 
 abbrev pub nowhere : Option Spot → Bool
 nowhere none = true
 nowhere (some p) = false
 
--- T43, TR: out of order. The types of finding 24 are as if not there
+-- the types of finding 24 are as if not there
+abbrev pub ordered : List Bytes → List Bytes
+ordered details = map (take 3) (only (λ r. not (is24 r)) details)
+
+-- where the details lead
+unfoldable pub reached : List Bytes → Option Spot
+reached details = walk (some outset) (ordered details)
+
+-- T43, TR: out of order
 unfoldable pub is8 : List Bytes → Bool
-is8 ds = nowhere (walk (some outset) (map (take 3) (only (λ r. not (is24 r)) ds)))
+is8 ds = nowhere (reached ds)
