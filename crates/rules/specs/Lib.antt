@@ -11,3 +11,4 @@ pub mod Writers
 pub mod Order
 pub mod Chains
 pub mod Works
+pub mod Verdicts

@@ -1,0 +1,60 @@
+-- The findings and verdicts of every record of a file, in order: HDR, its groups, TRL.
+use Prim.Native.Nat.{ℕ, suc}
+use mathlib.Core.Bool.{Bool, false, cond, _&&_, _||_}
+use mathlib.Core.List.{List, [], _∷_, _++_, map}
+use lib.Dec.{eqb}
+use Rattle.format.specs.Bytes.{Bytes}
+use Rattle.format.specs.Doc.{Doc, Group, Transaction}
+use Rattle.rules.specs.Tables.{Tables}
+use Rattle.rules.specs.Findings.{Level, TR, level, verdict, larger, worst}
+use Rattle.rules.specs.Works.{namedType, is0, transactionFindings}
+
+-- one list behind the other
+abbrev pub joined : {A B : Type 0} → (A → List B) → List A → List B
+joined f [] = []
+joined f (x ∷ xs) = f x ++ joined f xs
+
+abbrev pub anyOf : {A : Type 0} → (A → Bool) → List A → Bool
+anyOf p [] = false
+anyOf p (x ∷ xs) = p x || anyOf p xs
+
+-- some finding from number n on that holds has level TR
+abbrev pub rejectsFrom : ℕ → List Bool → Bool
+rejectsFrom n [] = false
+rejectsFrom n (b ∷ bs) = (b && eqb (verdict (level n)) (verdict TR)) || rejectsFrom (suc n) bs
+
+unfoldable pub rejects : List Bool → Bool
+rejects set = rejectsFrom 0 set
+
+-- no verdict below this one
+unfoldable pub raised : ℕ → List ℕ → List ℕ
+raised least verdicts = map (larger least) verdicts
+
+-- some header of the group has finding 0
+unfoldable pub isStray : Group → Bool
+isStray g = anyOf (λ (x : Transaction). is0 (namedType (g .opening)) (x .header)) (g .transactions)
+
+-- the tables and the tolerance
+module _ (tables : Tables) (t : ℕ) where
+  -- ---- findings
+
+  -- GRH and GRT have none; nor have HDR and TRL
+  unfoldable pub groupFindings : Group → List (List Bool)
+  groupFindings g = [] ∷ joined (transactionFindings tables t (namedType (g .opening))) (g .transactions) ++ [] ∷ []
+
+  unfoldable pub fileFindings : Doc → List (List Bool)
+  fileFindings d = [] ∷ joined groupFindings (d .groups) ++ [] ∷ []
+
+  -- ---- verdicts: the largest of a record's own levels, ..
+
+  -- .. 3 if any record of its transaction has a TR finding, ..
+  unfoldable pub transactionVerdicts : Bytes → Transaction → List ℕ
+  transactionVerdicts named x =
+      raised (cond (anyOf rejects (transactionFindings tables t named x)) 3 0) (map worst (transactionFindings tables t named x))
+
+  -- .. 4 if any header in its group has finding 0
+  unfoldable pub groupVerdicts : Group → List ℕ
+  groupVerdicts g = raised (cond (isStray g) 4 0) (0 ∷ joined (transactionVerdicts (namedType (g .opening))) (g .transactions) ++ 0 ∷ [])
+
+  unfoldable pub fileVerdicts : Doc → List ℕ
+  fileVerdicts d = 0 ∷ joined groupVerdicts (d .groups) ++ 0 ∷ []
