@@ -4,7 +4,7 @@ use mathlib.Core.List.{List, [], _∷_, _++_}
 use lib.ListN.{length}
 use Rattle.format.specs.Bytes.{Bytes, decimal, put, unlines}
 
--- each record is held with its number positions cut out
+-- each record is held with its number positions cut out; Tree has the same shape with whole records
 pub record Transaction : Type 0 where
   pub header : Bytes
   pub details : List Bytes
