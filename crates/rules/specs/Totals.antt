@@ -2,7 +2,7 @@
 use Prim.Native.Nat.{ℕ, _+_, _-_}
 use mathlib.Core.Bool.{Bool, not, _&&_, _||_}
 use mathlib.Core.List.{List, [], _∷_}
-use lib.Dec.{leb, ltb, eqb}
+use lib.Dec.{leb, eqb}
 use Rattle.format.specs.Bytes.{Bytes}
 use Rattle.rules.specs.Values.{fullShare, halfShare, shareOf}
 use Rattle.rules.specs.Records.{isPublisher, isWriter, only}
@@ -40,7 +40,7 @@ wholeTotal right details = publishersTotal right details + writersTotal right de
 
 -- under the tolerance t: over the most; exactly 0 or about the most
 abbrev pub exceeds : ℕ → ℕ → ℕ → Bool
-exceeds t most total = ltb (most + t) total
+exceeds t most total = not (leb total (most + t))
 
 abbrev pub zeroOrFull : ℕ → ℕ → Bool
 zeroOrFull t total = eqb total 0 || (leb (fullShare - t) total && leb total (fullShare + t))

@@ -1,0 +1,121 @@
+// The totals of a transaction's shares, and findings 1 to 3 on them. Nothing wraps: a transaction may hold 92,000 share records at 99999,
+// whose total is past 32 bits.
+use fields::Share;
+ghost use mathlib.Core.Path.{_≡_};
+ghost use mathlib.Core.Bool.{true};
+ghost use mathlib.Core.List.{List, [], _∷_, _++_};
+ghost use Prim.Native.Nat.{ℕ, _+_, _^_, _≤_};
+ghost use Rattle.format.specs.Bytes.{Bytes};
+ghost use Rattle.rules.specs.Values.{largestTolerance};
+ghost use Rattle.rules.specs.Records.{isPublisher, isWriter};
+ghost use Rattle.rules.specs.Totals.{publisherShare, writerShare, zeroOrFull, is1, is2, is3};
+ghost use Rattle.totals.specs.Sums.{rights, plus, AtMost, Sums, Below};
+
+// Shares of the three rights, in hundredths of a percent: one record's, or a total.
+pub struct Rights {
+    pub pr: u64,
+    pub mr: u64,
+    pub sr: u64,
+}
+
+// The totals over SPU and OPU, and over SWR and OWR.
+pub struct Totals {
+    pub publishers: Rights,
+    pub writers: Rights,
+}
+
+impl Rights {
+    pub fn none() -> Rights
+        ensures { λ r. ⌜ r ≡ rights (λ _. 0) ⌝ }
+    {
+        let zero = Share::zero();
+        Rights {
+            pr: zero.0,
+            mr: zero.0,
+            sr: zero.0,
+        }
+    }
+
+    pub fn with(mut self, shares: Rights) -> Rights
+        requires { ⌜ AtMost (2 ^ 60) self × AtMost (2 ^ 60) shares ⌝ }
+        ensures { λ r. ⌜ r ≡ plus self shares ⌝ }
+    {
+        self.pr += shares.pr;
+        self.mr += shares.mr;
+        self.sr += shares.sr;
+        self
+    }
+}
+
+impl Totals {
+    pub fn zero() -> Totals
+        ensures { λ r. ⌜ Sums r [] × Below 0 r ⌝ }
+    {
+        let none = Rights::none();
+        Totals {
+            publishers: none,
+            writers: none,
+        }
+    }
+
+    // With the shares of one publisher record more.
+    pub fn with_publisher(mut self, shares: Rights) -> Totals
+        requires { ⌜ Below (2 ^ 60) self × AtMost 99999 shares ⌝ }
+        ensures { λ t. ⌜ ((ds : List Bytes) (r : Bytes) → Sums self ds → isPublisher r ≡ true → shares ≡ rights (λ right. publisherShare right r) → Sums t (ds ++ r ∷ [])) ⌝ }
+        ensures { λ t. ⌜ ((k : ℕ) → Below k self → Below (k + 99999) t) ⌝ }
+    {
+        let before = self.publishers;
+        self.publishers = before.with(shares);
+        self
+    }
+
+    // With the shares of one writer record more.
+    pub fn with_writer(mut self, shares: Rights) -> Totals
+        requires { ⌜ Below (2 ^ 60) self × AtMost 99999 shares ⌝ }
+        ensures { λ t. ⌜ ((ds : List Bytes) (r : Bytes) → Sums self ds → isWriter r ≡ true → shares ≡ rights (λ right. writerShare right r) → Sums t (ds ++ r ∷ [])) ⌝ }
+        ensures { λ t. ⌜ ((k : ℕ) → Below k self → Below (k + 99999) t) ⌝ }
+    {
+        let before = self.writers;
+        self.writers = before.with(shares);
+        self
+    }
+
+    // Finding 1: the publishers' totals are too high.
+    pub fn publishers_exceed(self, t: u64) -> bool
+        requires { ⌜ t ≤ largestTolerance ⌝ }
+        ensures { λ r. ⌜ ((ds : List Bytes) → Sums self ds → r ≡ is1 t ds) ⌝ }
+    {
+        let total = self.publishers;
+        !Share::at_most(total.pr, Share::HALF, t)
+            | !Share::at_most(total.mr, Share::FULL, t)
+            | !Share::at_most(total.sr, Share::FULL, t)
+    }
+
+    // Finding 2: the writers' total for performing rights is too low, or one of theirs is too high.
+    pub fn writers_miss(self, t: u64) -> bool
+        requires { ⌜ t ≤ largestTolerance ⌝ }
+        ensures { λ r. ⌜ ((ds : List Bytes) → Sums self ds → r ≡ is2 t ds) ⌝ }
+    {
+        let total = self.writers;
+        !((total.pr == 0) | Share::at_least(total.pr, Share::HALF, t))
+            | !Share::at_most(total.pr, Share::FULL, t)
+            | !Share::at_most(total.mr, Share::FULL, t)
+            | !Share::at_most(total.sr, Share::FULL, t)
+    }
+
+    // Finding 3: some right is neither without shares nor shared out in full.
+    pub fn incomplete(self, t: u64) -> bool
+        requires { ⌜ (t ≤ largestTolerance) × Below (2 ^ 60) self ⌝ }
+        ensures { λ r. ⌜ ((ds : List Bytes) → Sums self ds → r ≡ is3 t ds) ⌝ }
+    {
+        let total = self.publishers.with(self.writers);
+        !(zero_or_full(total.pr, t) & zero_or_full(total.mr, t) & zero_or_full(total.sr, t))
+    }
+}
+
+fn zero_or_full(total: u64, t: u64) -> bool
+    requires { ⌜ t ≤ largestTolerance ⌝ }
+    ensures { λ r. ⌜ r ≡ zeroOrFull t total ⌝ }
+{
+    (total == 0) | Share::about(total, Share::FULL, t)
+}
