@@ -1,0 +1,93 @@
+-- `lookup::has` meets its contract: an empty slot holds no entry, and an entry that is the code is one wherever it stands.
+use Prim.Native.Nat.{ℕ, _-_}
+use mathlib.Core.Path.{sym, ap, _∙_}
+use lib.ListN.{length, getD}
+use Rattle.format.specs.Bytes.{Bytes, sameBytes}
+use Rattle.lookup.proofs.Laws.{indexed-length, empty-slot, entry-hit, small-product}
+use native.Mathlib.Omega.{arith}
+use borrow.Author.Needs.{needs}
+use Rattle.lookup.proofs.has.Statement.{statement}
+use Rattle.lookup.proofs.has.Tie as tie
+
+slot-requires : tie.Need-slot-requires
+slot-requires c κs = search needs
+
+mul-n : tie.Need-mul-n
+mul-n c = search needs
+
+shared-slice-read-n : tie.Need-shared-slice-read-n
+shared-slice-read-n c =
+    let s = c .before .before .before .before .before in
+    omega (arith, indexed-length (length (s .args .code .now)) (s .args .table .now) (s .args .slots .now) (s .pre .1))
+
+cast-n : tie.Need-cast-n
+cast-n c = omega (arith, c .shared-slice-known4 .given (c .before .slot .result))
+
+returns : tie.Need-returns
+returns c =
+    let s = c .before .before .before .before .before .before in
+    let empty = ap (λ (h : ℕ). getD (s .args .slots .now) h 0) (sym (c .before .before .slot .ensures .0)) ∙ c .if1 .taken in
+    empty-slot (length (s .args .code .now)) (s .args .table .now) (s .args .slots .now) (s .pre .1) (s .args .code .now) empty
+
+sub-k : tie.Need-sub-k
+sub-k c = search needs
+
+mul-if2 : tie.Need-mul-if2
+mul-if2 c =
+    let s = c .before .before .before .before .before .before in
+    let n = getD (s .args .slots .now) (c .before .before .slot .result) 0 in
+    let known = c .before .shared-slice-known4 .given (c .before .before .slot .result) in
+    let small = small-product (length (s .args .code .now)) (n - 1) (s .pre .0 .1) (omega arith) in
+    omega arith
+
+add-if2 : tie.Need-add-if2
+add-if2 c =
+    let s = c .before .before .before .before .before .before in
+    let n = getD (s .args .slots .now) (c .before .before .slot .result) 0 in
+    let known = c .before .shared-slice-known4 .given (c .before .before .slot .result) in
+    let small = small-product (length (s .args .code .now)) (n - 1) (s .pre .0 .1) (omega arith) in
+    omega arith
+
+search-requires : tie.Need-search-requires
+search-requires c κs = search needs
+
+returns-2 : tie.Need-returns-2
+returns-2 c = search needs
+
+entry-requires : tie.Need-entry-requires
+entry-requires c κs = search needs
+
+same-requires : tie.Need-same-requires
+same-requires c κs = search needs
+
+returns-3 : tie.Need-returns-3
+returns-3 c =
+    let g = c .before .before .before .before .before .before .before .before .before .before .args in
+    let same = ap (λ (e : Bytes). sameBytes e (g .code .now)) (sym (c .before .before .entry .ensures .0)) ∙ sym (c .before .same .ensures) ∙ c .if3 .taken in
+    entry-hit (length (g .code .now)) (g .table .now) (g .code .now) _ (search needs) (c .before .before .before .if2 .left) same
+
+search-requires-2 : tie.Need-search-requires-2
+search-requires-2 c κs = search needs
+
+returns-4 : tie.Need-returns-4
+returns-4 c = search needs
+
+pub has-spec : {M : Type 1} → statement M
+has-spec =
+    tie.close
+    (tie.spec
+    slot-requires
+    mul-n
+    shared-slice-read-n
+    cast-n
+    returns
+    sub-k
+    mul-if2
+    add-if2
+    search-requires
+    returns-2
+    entry-requires
+    same-requires
+    returns-3
+    search-requires-2
+    returns-4)
