@@ -49,9 +49,9 @@ module _ (size : ℕ) (table : Bytes) where
   unfolding rightTable
   most e = leb-true (length table / size) mostEntries (and-eq-true-iff (eqb (length table % size) 0) _ .0 e .1)
 
--- the place of an entry that a slot may name is no large number
-pub small-product : (size k : ℕ) → size ≤ 3 → k < 65536 → size * k ≤ 196608
-small-product size k p q = mul-le-mul {n₁ = size} {m₁ = k} {n₂ = 3} {m₂ = 65536} p (omega arith)
+-- the end of an entry that a slot's number n names is no large number
+pub small-end : (size n : ℕ) → size ≤ 3 → n < 65536 → size * (n - 1) + size ≤ 196611
+small-end size n p q = omega (arith, mul-le-mul {n₁ = size} {m₁ = n - 1} {n₂ = 3} {m₂ = 65536} p (omega arith))
 
 -- ---- the search: the entries from the k-th on decide
 
@@ -63,19 +63,8 @@ module _ (size : ℕ) (table code : Bytes) where
   unfolding isIn
   search-start = ap (among code) (from-start size table)
 
-  module _ (k : ℕ) (inv : RestDecides size table code k) where
-    looked : (b : Bool) → k < length table / size → sameBytes (take size (drop (size * k) table)) code ≡ b
-        → (b || among code (entriesFrom size (k + 1) table)) ≡ isIn size table code
-    looked b h e = rw (← e) (sym (ap (among code) (from-on size table k h)) ∙ inv)
-
-    pub search-hit : k < length table / size → sameBytes (take size (drop (size * k) table)) code ≡ true → true ≡ isIn size table code
-    search-hit h e = looked true h e
-
-    pub search-miss : k < length table / size → sameBytes (take size (drop (size * k) table)) code ≡ false → RestDecides size table code (k + 1)
-    search-miss h e = looked false h e
-
-    pub search-end : length table / size ≤ k → false ≡ isIn size table code
-    search-end h = sym (ap (among code) (from-end size table k h)) ∙ inv
+  pub search-end : (k : ℕ) → RestDecides size table code k → length table / size ≤ k → false ≡ isIn size table code
+  search-end k inv h = sym (ap (among code) (from-end size table k h)) ∙ inv
 
   -- what is among the entries from the k-th on is among them all
   among-all : (k : ℕ) → k ≤ length table / size → among code (entriesFrom size k table) ≡ true → isIn size table code ≡ true
@@ -84,12 +73,17 @@ module _ (size : ℕ) (table code : Bytes) where
       let later : among code (entriesFrom size (k + 1) table) ≡ true = rw add-one e in
       among-all k (omega arith) (ap (among code) (from-on size table k h) ∙ rw later (or-true (sameBytes (take size (drop (size * k) table)) code)))
 
-  -- an entry that is the code, wherever it stands
-  pub entry-hit : (k : ℕ) → 0 < size → size * k + size ≤ length table → sameBytes (take size (drop (size * k) table)) code ≡ true
-      → true ≡ isIn size table code
-  entry-hit k p h e =
-      let c = counted size table k p h in
-      sym (among-all k (omega arith) (ap (among code) (from-on size table k c) ∙ rw e))
+  -- the k-th entry is compared with the code
+  module _ (k : ℕ) (entry : Bytes) (same : Bool) (e : entry ≡ take size (drop (size * k) table)) (s : same ≡ sameBytes entry code) where
+    compared : (b : Bool) → k < length table / size → same ≡ b → among code (entriesFrom size k table) ≡ (b || among code (entriesFrom size (k + 1) table))
+    compared b h t = ap (among code) (from-on size table k h) ∙ rw (← t, s, e)
+
+    -- an entry that is the code, wherever it stands
+    pub hit : 0 < size → size * k + size ≤ length table → same ≡ true → true ≡ isIn size table code
+    hit p h t = let c = counted size table k p h in sym (among-all k (omega arith) (compared true c t))
+
+    pub miss : RestDecides size table code k → k < length table / size → same ≡ false → RestDecides size table code (k + 1)
+    miss inv h t = sym (compared false h t) ∙ inv
 
 -- ---- codes of two or three bytes
 
@@ -161,9 +155,9 @@ module _ (size : ℕ) (table : Bytes) (slots : List ℕ) (made : Indexed size ta
       rw made
       (numbered-full 1 (entries size table) (replicate slotCount 0) code (lit< tt) (rw length-replicate (slot-bound code)) e)
 
-  pub empty-slot : (code : Bytes) → getD slots (slotOf code) 0 ≡ 0 → false ≡ isIn size table code
-  empty-slot code e =
-      by-cases (isIn size table code) (λ t. let f = full code t in absurd (omega arith)) (λ t. sym t)
+  pub empty-slot : (code : Bytes) (h : ℕ) → h ≡ slotOf code → getD slots h 0 ≡ 0 → false ≡ isIn size table code
+  empty-slot code h p e =
+      by-cases (isIn size table code) (λ t. let f = rw (← p) at (full code t) in absurd (omega arith)) (λ t. sym t)
 
   length-numbered : (n : ℕ) (es : List Bytes) (l : List ℕ) → length (numbered n es l) ≡ length l
   length-numbered n [] l = refl

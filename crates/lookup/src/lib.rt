@@ -33,7 +33,7 @@ fn wide(b: u8) -> usize
 fn slot(code: &[u8]) -> usize
     requires { ⌜ 2 ≤ length (now code) ⌝ }
     ensures { λ r. ⌜ r ≡ slotOf (now (code .entry)) ⌝ }
-    ensures { λ r. ⌜ r < 4096 ⌝ }
+    ensures { λ r. ⌜ r < slotCount ⌝ }
 {
     let last = code.len() - 1;
     ((wide(code[0]) * 27 + wide(code[1])) * 27 + wide(code[last])) % SLOTS
@@ -94,18 +94,18 @@ fn search(table: &[u8], code: &[u8]) -> bool
 {
     let size = code.len();
     let count = table.len() / size;
-    let mut k = 0;
-    while k < count {
-        if same(entry(table, size, k), code) {
+    let mut i = 0;
+    while i < count {
+        if same(entry(table, size, i), code) {
             return true;
         }
-        k += 1;
+        i += 1;
     }
     false
 }
 
-// Whether the code is in the table that the slots are the index of: not if its slot is empty; else the entry in its slot is compared,
-// and the others only where that is another code.
+// Whether the code is in the table that the slots are the index of: not if its slot is empty; else the entry that the slot names is
+// compared, and the others only where that is another code. No slot's number is trusted to name an entry.
 pub fn has(table: &[u8], slots: &[u16], code: &[u8]) -> bool
     requires { ⌜ (2 ≤ length (now code)) × (length (now code) ≤ 3) ⌝ }
     requires { ⌜ Indexed (length (now code)) (now table) (now slots) ⌝ }
@@ -121,7 +121,8 @@ pub fn has(table: &[u8], slots: &[u16], code: &[u8]) -> bool
     if table.len() < size * k + size {
         return search(table, code);
     }
-    if same(entry(table, size, k), code) {
+    let named = entry(table, size, k);
+    if same(named, code) {
         return true;
     }
     search(table, code)

@@ -1,9 +1,6 @@
 -- `lookup::has` meets its contract: an empty slot holds no entry, and an entry that is the code is one wherever it stands.
-use Prim.Native.Nat.{ℕ, _-_}
-use mathlib.Core.Path.{sym, ap, _∙_}
 use lib.ListN.{length, getD}
-use Rattle.format.specs.Bytes.{Bytes, sameBytes}
-use Rattle.lookup.proofs.Laws.{indexed-length, empty-slot, entry-hit, small-product}
+use Rattle.lookup.proofs.Laws.{indexed-length, empty-slot, hit, small-end}
 use native.Mathlib.Omega.{arith}
 use borrow.Author.Needs.{needs}
 use Rattle.lookup.proofs.has.Statement.{statement}
@@ -26,8 +23,8 @@ cast-n c = omega (arith, c .shared-slice-known4 .given (c .before .slot .result)
 returns : tie.Need-returns
 returns c =
     let s = c .before .before .before .before .before .before in
-    let empty = ap (λ (h : ℕ). getD (s .args .slots .now) h 0) (sym (c .before .before .slot .ensures .0)) ∙ c .if1 .taken in
-    empty-slot (length (s .args .code .now)) (s .args .table .now) (s .args .slots .now) (s .pre .1) (s .args .code .now) empty
+    empty-slot (length (s .args .code .now)) (s .args .table .now) (s .args .slots .now) (s .pre .1)
+    (s .args .code .now) (c .before .before .slot .result) (c .before .before .slot .ensures .0) (c .if1 .taken)
 
 sub-k : tie.Need-sub-k
 sub-k c = search needs
@@ -35,18 +32,16 @@ sub-k c = search needs
 mul-if2 : tie.Need-mul-if2
 mul-if2 c =
     let s = c .before .before .before .before .before .before in
-    let n = getD (s .args .slots .now) (c .before .before .slot .result) 0 in
-    let known = c .before .shared-slice-known4 .given (c .before .before .slot .result) in
-    let small = small-product (length (s .args .code .now)) (n - 1) (s .pre .0 .1) (omega arith) in
-    omega arith
+    let at = c .before .before .slot .result in
+    let known = c .before .shared-slice-known4 .given at in
+    omega (arith, small-end (length (s .args .code .now)) (getD (s .args .slots .now) at 0) (s .pre .0 .1) (omega arith))
 
 add-if2 : tie.Need-add-if2
 add-if2 c =
     let s = c .before .before .before .before .before .before in
-    let n = getD (s .args .slots .now) (c .before .before .slot .result) 0 in
-    let known = c .before .shared-slice-known4 .given (c .before .before .slot .result) in
-    let small = small-product (length (s .args .code .now)) (n - 1) (s .pre .0 .1) (omega arith) in
-    omega arith
+    let at = c .before .before .slot .result in
+    let known = c .before .shared-slice-known4 .given at in
+    omega (arith, small-end (length (s .args .code .now)) (getD (s .args .slots .now) at 0) (s .pre .0 .1) (omega arith))
 
 search-requires : tie.Need-search-requires
 search-requires c κs = search needs
@@ -63,8 +58,8 @@ same-requires c κs = search needs
 returns-3 : tie.Need-returns-3
 returns-3 c =
     let g = c .before .before .before .before .before .before .before .before .before .before .args in
-    let same = ap (λ (e : Bytes). sameBytes e (g .code .now)) (sym (c .before .before .entry .ensures .0)) ∙ sym (c .before .same .ensures) ∙ c .if3 .taken in
-    entry-hit (length (g .code .now)) (g .table .now) (g .code .now) _ (search needs) (c .before .before .before .if2 .left) same
+    hit (length (g .code .now)) (g .table .now) (g .code .now) _ _ _ (c .before .before .entry .ensures .0) (c .before .same .ensures)
+    (search needs) (c .before .before .before .if2 .left) (c .if3 .taken)
 
 search-requires-2 : tie.Need-search-requires-2
 search-requires-2 c κs = search needs

@@ -1,20 +1,18 @@
--- `lookup::search` meets its contract: the entries from the k-th on decide.
+-- `lookup::search` meets its contract: the entries from the i-th on decide.
 use Prim.Native.Nat.{_≤_, _-_}
-use mathlib.Core.Path.{sym, ap, _∙_}
 use native.Mathlib.Nat.{div-le-self}
-use Rattle.format.specs.Bytes.{Bytes, sameBytes}
 use lib.ListN.{length}
-use Rattle.lookup.proofs.Laws.{RestDecides, search-start, search-hit, search-miss, search-end, within}
+use Rattle.lookup.proofs.Laws.{RestDecides, search-start, search-end, hit, miss, within}
 use native.Mathlib.Omega.{arith}
 use borrow.Author.Needs.{needs}
 use Rattle.lookup.proofs.search.Statement.{statement}
 use Rattle.lookup.proofs.search.Tie as tie
 
 abbrev Inv-loop : tie.InvT-loop
-Inv-loop table code size count k₀ k = (k ≤ count) × RestDecides (length code) table code k
+Inv-loop table code size count i₀ i = (i ≤ count) × RestDecides (length code) table code i
 
 abbrev μ-loop : tie.MeasureT-loop
-μ-loop table code size count k₀ k = count - k
+μ-loop table code size count i₀ i = count - i
 
 div-count : tie.Need-div-count Inv-loop μ-loop
 div-count c = search needs
@@ -27,7 +25,7 @@ loop-holds c =
 entry-requires : tie.Need-entry-requires Inv-loop μ-loop
 entry-requires c κs =
     let g = c .before .before .before .before .args in
-    within (length (g .code .now)) (g .table .now) (c .before .loop .k) (c .loop-test .taken)
+    within (length (g .code .now)) (g .table .now) (c .before .loop .i) (c .loop-test .taken)
 
 same-requires : tie.Need-same-requires Inv-loop μ-loop
 same-requires c κs = search needs
@@ -36,11 +34,12 @@ returns : tie.Need-returns Inv-loop μ-loop
 returns c =
     let g = c .before .before .before .before .before .before .before .args in
     let l = c .before .before .before .before .loop in
-    let same = ap (λ (e : Bytes). sameBytes e (g .code .now)) (sym (c .before .before .entry .ensures .0)) ∙ sym (c .before .same .ensures) ∙ c .if1 .taken in
-    search-hit (length (g .code .now)) (g .table .now) (g .code .now) (l .k) (l .inv .1) (c .before .before .before .loop-test .taken) same
+    let size = length (g .code .now) in
+    hit size (g .table .now) (g .code .now) (l .i) _ _ (c .before .before .entry .ensures .0) (c .before .same .ensures)
+    (search needs) (within size (g .table .now) (l .i) (c .before .before .before .loop-test .taken)) (c .if1 .taken)
 
-add-k : tie.Need-add-k Inv-loop μ-loop
-add-k c =
+add-i : tie.Need-add-i Inv-loop μ-loop
+add-i c =
     let g = c .before .before .before .before .before .before .before .args in
     omega (arith, div-le-self (length (g .table .now)) (length (g .code .now)))
 
@@ -51,14 +50,16 @@ loop-again : tie.Need-loop-again Inv-loop μ-loop
 loop-again c =
     let g = c .before .before .before .before .before .before .before .args in
     let l = c .before .before .before .before .loop in
-    let same = ap (λ (e : Bytes). sameBytes e (g .code .now)) (sym (c .before .before .entry .ensures .0)) ∙ sym (c .before .same .ensures) ∙ c .if1 .left in
-    (search needs, search-miss (length (g .code .now)) (g .table .now) (g .code .now) (l .k) (l .inv .1) (c .before .before .before .loop-test .taken) same)
+    let on =
+    miss (length (g .code .now)) (g .table .now) (g .code .now) (l .i) _ _ (c .before .before .entry .ensures .0) (c .before .same .ensures)
+    (l .inv .1) (c .before .before .before .loop-test .taken) (c .if1 .left) in
+    (search needs, on)
 
 returns-2 : tie.Need-returns-2 Inv-loop μ-loop
 returns-2 c =
     let g = c .before .before .before .before .args in
     let l = c .before .loop in
-    search-end (length (g .code .now)) (g .table .now) (g .code .now) (l .k) (l .inv .1) (c .loop-test .left)
+    search-end (length (g .code .now)) (g .table .now) (g .code .now) (l .i) (l .inv .1) (c .loop-test .left)
 
 pub search-spec : {M : Type 1} → statement M
 search-spec =
@@ -71,7 +72,7 @@ search-spec =
     entry-requires
     same-requires
     returns
-    add-k
+    add-i
     loop-less
     loop-again
     returns-2)
