@@ -2,7 +2,7 @@
 use Prim.Native.Nat.{ℕ, zero, suc, _+_, _-_, _*_, _/_, _%_, _<_, _≤_}
 use mathlib.Core.Path.{_≡_, refl, sym, ap, _∙_}
 use mathlib.Core.Bool.{Bool, true, false, _&&_, _||_, and-true, and-self, or-true, and-eq-true-iff, false≢true}
-use mathlib.Core.List.{List, [], _∷_, _++_}
+use mathlib.Core.List.{List, [], _∷_}
 use native.Mathlib.Nat.{mul-suc, mul-zero, mul-comm, sub-zero, mul-le-mul, mul-le-mul-left, mul-div-le, le-div-iff-mul-le, mod-lt}
 use native.Mathlib.Numerals.{add-one}
 use native.Mathlib.Omega.{arith}
@@ -111,7 +111,8 @@ Cleared old slots i = (i ≤ length slots) × (length slots ≡ length old) × (
 module _ (old slots : List ℕ) (i : ℕ) (inv : Cleared old slots i) where
   pub clear-on : i < length slots → Cleared old (set slots i 0) (i + 1)
   clear-on h =
-      (simp length-set (omega arith), simp length-set (inv .1), rw (add-one, take-suc-set slots i 0 h, inv .2) (rw add-one at (replicate-append-replicate {A = ℕ} i 1 0)))
+      let one-more = rw add-one at (replicate-append-replicate {A = ℕ} i 1 0) in
+      (simp length-set (omega arith), simp length-set (inv .1), rw (add-one, take-suc-set slots i 0 h, inv .2) one-more)
 
   pub clear-end : length slots ≤ i → slots ≡ replicate (length old) 0
   clear-end h =
@@ -148,6 +149,10 @@ numbered-full n (x ∷ es) slots code p l e =
     stays-full (suc n) es next (slotOf code) (omega arith) (rw put p))
     (λ s. numbered-full (suc n) es next code (omega arith) (rw length-set l) (rw s at e))
 
+length-numbered : (n : ℕ) (es : List Bytes) (l : List ℕ) → length (numbered n es l) ≡ length l
+length-numbered n [] l = refl
+length-numbered n (e ∷ es) l = length-numbered (suc n) es (set l (slotOf e) n) ∙ length-set l (slotOf e) n
+
 module _ (size : ℕ) (table : Bytes) (slots : List ℕ) (made : Indexed size table slots) where
   pub full : (code : Bytes) → isIn size table code ≡ true → 0 < getD slots (slotOf code) 0
   unfolding Indexed indexOf isIn
@@ -158,10 +163,6 @@ module _ (size : ℕ) (table : Bytes) (slots : List ℕ) (made : Indexed size ta
   pub empty-slot : (code : Bytes) (h : ℕ) → h ≡ slotOf code → getD slots h 0 ≡ 0 → false ≡ isIn size table code
   empty-slot code h p e =
       by-cases (isIn size table code) (λ t. let f = rw (← p) at (full code t) in absurd (omega arith)) (λ t. sym t)
-
-  length-numbered : (n : ℕ) (es : List Bytes) (l : List ℕ) → length (numbered n es l) ≡ length l
-  length-numbered n [] l = refl
-  length-numbered n (e ∷ es) l = length-numbered (suc n) es (set l (slotOf e) n) ∙ length-set l (slotOf e) n
 
   pub indexed-length : length slots ≡ slotCount
   unfolding Indexed indexOf

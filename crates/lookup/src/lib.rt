@@ -29,7 +29,7 @@ fn wide(b: u8) -> usize
     b as usize
 }
 
-// The slot of a code. No two codes of three digits, or of two letters, have the same.
+// The slot of a code; of two bytes the second is also the last. No two codes of three digits, or of two letters, have the same slot.
 fn slot(code: &[u8]) -> usize
     requires { ⌜ 2 ≤ length (now code) ⌝ }
     ensures { λ r. ⌜ r ≡ slotOf (now (code .entry)) ⌝ }

@@ -1,10 +1,10 @@
 -- `lookup::clear` meets its contract: the first i slots are 0.
 use Prim.Native.Nat.{_-_}
 use mathlib.Core.Path.{refl}
-use lib.ListN.{length, length-set}
-use Rattle.lookup.proofs.Laws.{Cleared, clear-on, clear-end}
 use native.Mathlib.Omega.{arith}
 use borrow.Author.Needs.{needs}
+use lib.ListN.{length, length-set}
+use Rattle.lookup.proofs.Laws.{Cleared, clear-on, clear-end}
 use Rattle.lookup.proofs.clear.Statement.{statement}
 use Rattle.lookup.proofs.clear.Tie as tie
 

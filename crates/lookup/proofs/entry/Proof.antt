@@ -1,9 +1,9 @@
 -- `lookup::entry` meets its contract.
-use mathlib.Core.Path.{_≡_}
 use Prim.Native.Nat.{_+_, _-_, _*_}
-use lib.ListN.{length-take, length-drop}
+use mathlib.Core.Path.{_≡_}
 use native.Mathlib.Omega.{arith}
 use borrow.Author.Needs.{needs}
+use lib.ListN.{length-take, length-drop}
 use Rattle.lookup.proofs.entry.Statement.{statement}
 use Rattle.lookup.proofs.entry.Tie as tie
 

@@ -1,8 +1,8 @@
 -- `lookup::has` meets its contract: an empty slot holds no entry, and an entry that is the code is one wherever it stands.
-use lib.ListN.{length, getD}
-use Rattle.lookup.proofs.Laws.{indexed-length, empty-slot, hit, small-end}
 use native.Mathlib.Omega.{arith}
 use borrow.Author.Needs.{needs}
+use lib.ListN.{length, getD}
+use Rattle.lookup.proofs.Laws.{indexed-length, empty-slot, hit, small-end}
 use Rattle.lookup.proofs.has.Statement.{statement}
 use Rattle.lookup.proofs.has.Tie as tie
 

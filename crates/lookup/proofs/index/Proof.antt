@@ -1,12 +1,11 @@
 -- `lookup::index` meets its contract: the entries from the k-th on are still to be put into the slots.
 use Prim.Native.Nat.{ℕ, _≤_, _-_}
 use mathlib.Core.Path.{sym, ap, _∙_}
+use borrow.Author.Needs.{needs}
 use lib.ListN.{replicate}
 use Rattle.rules.specs.Tables.{mostEntries}
 use Rattle.lookup.specs.Index.{slotOf}
 use Rattle.lookup.proofs.Laws.{within, most, Fills, fill-start, fill-on, fill-end}
-use native.Mathlib.Omega.{arith}
-use borrow.Author.Needs.{needs}
 use Rattle.lookup.proofs.index.Statement.{statement}
 use Rattle.lookup.proofs.index.Tie as tie
 

@@ -1,7 +1,6 @@
 -- `lookup::right` meets its contract.
-use Rattle.rules.specs.Tables.{rightTable}
-use native.Mathlib.Omega.{arith}
 use borrow.Author.Needs.{needs}
+use Rattle.rules.specs.Tables.{rightTable}
 use Rattle.lookup.proofs.right.Statement.{statement}
 use Rattle.lookup.proofs.right.Tie as tie
 

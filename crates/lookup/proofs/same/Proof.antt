@@ -1,7 +1,6 @@
 -- `lookup::same` meets its contract.
-use Rattle.lookup.proofs.Laws.{same-codes}
-use native.Mathlib.Omega.{arith}
 use borrow.Author.Needs.{needs}
+use Rattle.lookup.proofs.Laws.{same-codes}
 use Rattle.lookup.proofs.same.Statement.{statement}
 use Rattle.lookup.proofs.same.Tie as tie
 

@@ -1,10 +1,10 @@
 -- `lookup::search` meets its contract: the entries from the i-th on decide.
 use Prim.Native.Nat.{_≤_, _-_}
 use native.Mathlib.Nat.{div-le-self}
-use lib.ListN.{length}
-use Rattle.lookup.proofs.Laws.{RestDecides, search-start, search-end, hit, miss, within}
 use native.Mathlib.Omega.{arith}
 use borrow.Author.Needs.{needs}
+use lib.ListN.{length}
+use Rattle.lookup.proofs.Laws.{RestDecides, search-start, search-end, hit, miss, within}
 use Rattle.lookup.proofs.search.Statement.{statement}
 use Rattle.lookup.proofs.search.Tie as tie
 

@@ -1,9 +1,8 @@
 -- `lookup::slot` meets its contract.
 use native.Mathlib.Nat.{mod-lt}
+use borrow.Author.Needs.{needs}
 use lib.Dec.{lit<}
 use Rattle.lookup.specs.Index.{slotOf}
-use native.Mathlib.Omega.{arith}
-use borrow.Author.Needs.{needs}
 use Rattle.lookup.proofs.slot.Statement.{statement}
 use Rattle.lookup.proofs.slot.Tie as tie
 
