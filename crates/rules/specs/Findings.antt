@@ -1,5 +1,5 @@
 -- The findings as sets, and the level of each.
-use Prim.Native.Nat.{ℕ, suc, _+_, _*_}
+use Prim.Native.Nat.{ℕ, zero, suc, _+_, _*_, _/_, _%_}
 use mathlib.Core.Bool.{Bool, false, cond, _||_}
 use mathlib.Core.List.{List, [], _∷_, _++_}
 use lib.Dec.{leb, eqb}
@@ -54,6 +54,16 @@ ownFindings t before r =
 unfoldable pub setOf : List Bool → ℕ
 setOf [] = 0
 setOf (b ∷ bs) = cond b 1 0 + 2 * setOf bs
+
+-- the lowest so many bits of a number, lowest first: whether each is set
+unfoldable pub places : ℕ → ℕ → List Bool
+places zero n = []
+places (suc k) n = eqb (n % 2) 1 ∷ places k (n / 2)
+
+-- the lowest so many bytes of a number, least significant first
+unfoldable pub bytesOf : ℕ → ℕ → Bytes
+bytesOf zero n = []
+bytesOf (suc k) n = n % 256 ∷ bytesOf k (n / 256)
 
 -- how many hold
 unfoldable pub countOf : List Bool → ℕ

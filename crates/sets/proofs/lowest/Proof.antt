@@ -1,0 +1,11 @@
+-- `sets::lowest` meets its contract.
+-- Assumes nothing.
+use Rattle.sets.proofs.Laws.{zeros-lowest}
+use Rattle.sets.proofs.lowest.Statement.{statement}
+use Rattle.sets.proofs.lowest.Tie as tie
+
+returns : tie.Need-returns
+returns c = zeros-lowest 64 (c .args .set)
+
+pub lowest-spec : {M : Type 1} → statement M
+lowest-spec = tie.close (tie.spec returns)
