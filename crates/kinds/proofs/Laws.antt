@@ -1,6 +1,6 @@
 -- The row of a type: it is the first of the code's rows, and says the place, the length and the spots that the format has for the type.
 -- Assumes nothing.
-use Prim.Native.Nat.{ℕ, _<_, _≤_}
+use Prim.Native.Nat.{ℕ, zero, suc, _+_, _<_, _≤_}
 use native.Mathlib.Omega.{arith}
 use mathlib.Core.Path.{_≡_, refl, sym, ap, _∙_}
 use mathlib.Core.Bool.{Bool, true, false, cond}
@@ -9,19 +9,19 @@ use lib.ListN.{length, getD, take, length-take}
 use lib.Seq.{take-all}
 use lib.Dec.{eqb}
 use borrow.Author.Tests.{eqb-true}
-use Rattle.format.specs.Bytes.{Bytes, every, sameBytes}
+use Rattle.format.specs.Bytes.{Bytes, every, sameBytes, among}
 use Rattle.format.specs.Table.{Class, known, Row as FormatRow, row, noType, rowOf, classOf, lenOf}
 use Rattle.format.specs.Cwr22.{rows22, cwr22}
 use Rattle.format.specs.Checks.{code, cls}
 use Rattle.format.specs.Stages.{stages, spots, begins}
-use Rattle.kinds.specs.Rows.{codeRow, kinds, rowFor, typeOf, noRow, firstOf, spotsOf}
+use Rattle.kinds.specs.Rows.{codeRow, kinds, rowFor, typeOf, noRow, firstOf, spotsOf, sorts, sortFrom, sortOf}
 use Rattle.kinds.specs.declared.Row.{Row}
 use Rattle.kinds.proofs.Tests.{by-cases, both, same→eq}
 use Rattle.kinds.proofs.First.{has, distinct, only, short}
-use Rattle.kinds.proofs.Spots.{sameSpots, sameSpots→eq, stageListed, no-spots, begins-none}
+use Rattle.kinds.proofs.Spots.{sameSpots, sameSpots→eq, stageListed, no-spots, begins-none, no-sort-of}
 
 code-unknown : codeRow (noType) ≡ noRow
-unfolding spots begins stages
+unfolding spots begins stages sortOf
 code-unknown = refl
 
 -- ---- the first of the code's rows is the code's row of the format's first
@@ -52,7 +52,7 @@ unfolding kinds rowFor rows22 three
 first-row t = first-is rows22 refl t
 
 distinct-kinds : distinct kinds ≡ true
-unfolding kinds rows22 spots begins stages has distinct
+unfolding kinds rows22 spots begins stages sortOf has distinct
 distinct-kinds = refl
 
 -- ---- the code's table, searched or hinted at
@@ -90,7 +90,7 @@ fits : FormatRow → Bool
 fits (row t n c) = sameSpots (spotsOf (codeRow (row t n c))) (spots t)
 
 all-fit : every fits rows22 ≡ true
-unfolding rows22 fits sameSpots spots begins stages
+unfolding rows22 fits sameSpots spots begins stages sortOf
 all-fit = refl
 
 -- the row found for t is that of no type, or is of the type t and passes each test that all rows pass
@@ -139,3 +139,46 @@ alone-begins t =
     (λ n c e. refl)
     rows22 all-fit
     (λ none. ap (λ (r : Row). r .alone) code-unknown ∙ sym (unlisted-begins t none))
+
+-- ---- sorts
+
+sorts-listed : every (every listed) sorts ≡ true
+unfolding listed rows22
+sorts-listed = refl
+
+pub sort-is : (t : Bytes) → rowFor t .sort ≡ sortOf t
+unfolding rowFor sortOf
+sort-is t =
+    row-cases (λ (f : FormatRow). codeRow f .sort ≡ sortOf t) fits t
+    (λ n c e. refl)
+    rows22 all-fit
+    (λ none. ap (λ (r : Row). r .sort) code-unknown ∙ sym (no-sort-of listed t (unlisted t none) 1 sorts sorts-listed))
+
+-- the list of a sort holds the type, and no list holds a type of none
+module _ (t : Bytes) where
+  none-below : (m k : ℕ) (ls : List (List Bytes)) → sortFrom m t ls ≡ k → k < m → k ≡ 0
+  none-below m k [] e h = sym e
+  none-below m k (l ∷ ls) e h = by-cases (among t l) (λ q. absurd (omega (arith, rw q at e))) (λ q. none-below (suc m) k ls (rw q at e) (omega arith))
+
+  in-list : (n k : ℕ) (ls : List (List Bytes)) → sortFrom (suc n) t ls ≡ suc (n + k) → among t (getD ls k []) ≡ true
+  in-list n k [] e = absurd (omega arith)
+  in-list n zero (l ∷ ls) e =
+      by-cases (among t l) (λ q. q) (λ q. absurd (omega (arith, none-below (suc (suc n)) (suc (n + 0)) ls (rw q at e) (omega arith))))
+  in-list n (suc k) (l ∷ ls) e =
+      by-cases (among t l) (λ q. absurd (omega (arith, rw q at e))) (λ q. in-list (suc n) k ls ((rw q at e) ∙ omega arith))
+
+  in-none : (n k : ℕ) (ls : List (List Bytes)) → sortFrom (suc n) t ls ≡ 0 → among t (getD ls k []) ≡ false
+  in-none n k [] e = refl
+  in-none n zero (l ∷ ls) e = by-cases (among t l) (λ q. absurd (omega (arith, rw q at e))) (λ q. q)
+  in-none n (suc k) (l ∷ ls) e = by-cases (among t l) (λ q. absurd (omega (arith, rw q at e))) (λ q. in-none (suc n) k ls (rw q at e))
+
+  module _ (kind : Row) (its : kind ≡ rowFor t) where
+    sort-here : sortFrom 1 t sorts ≡ kind .sort
+    unfolding sortOf
+    sort-here = sym (sort-is t) ∙ sym (ap (λ (r : Row). r .sort) its)
+
+    pub of-sort : (k : ℕ) → kind .sort ≡ suc k → among t (getD sorts k []) ≡ true
+    of-sort k e = in-list 0 k sorts (sort-here ∙ e ∙ omega arith)
+
+    pub of-none : kind .sort ≡ 0 → (k : ℕ) → among t (getD sorts k []) ≡ false
+    of-none e k = in-none 0 k sorts (sort-here ∙ e)

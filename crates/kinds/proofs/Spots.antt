@@ -8,6 +8,7 @@ use lib.Dec.{eqb}
 use borrow.Author.Tests.{eqb-true}
 use Rattle.format.specs.Bytes.{Bytes, every, sameBytes, among}
 use Rattle.format.specs.Stages.{Spot, spot, Stage, stage, inBrackets, spotsIn, spotsFrom, amongAny, beginsAny}
+use Rattle.kinds.specs.Rows.{sortFrom}
 use Rattle.kinds.proofs.Tests.{by-cases, both, same→eq}
 
 unfoldable pub sameSpots : List Spot → List Spot → Bool
@@ -72,3 +73,9 @@ module _ (listed : Bytes → Bool) (t : Bytes) (unlisted : listed t ≡ false) w
   begins-none (stage b u bs ∷ ss) q =
       let p = both (listed u && every (every listed) bs) (every (stageListed listed) ss) q in
       rw (not-any bs (both (listed u) (every (every listed) bs) (p .0) .1), and-false b, begins-none ss (p .1))
+
+  pub no-sort-of : (n : ℕ) (ls : List (List Bytes)) → every (every listed) ls ≡ true → sortFrom n t ls ≡ 0
+  no-sort-of n [] q = refl
+  no-sort-of n (l ∷ ls) q =
+      let p = both (every listed l) (every (every listed) ls) q in
+      rw (not-among l (p .0), no-sort-of (suc n) ls (p .1))

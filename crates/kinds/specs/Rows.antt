@@ -1,10 +1,11 @@
 -- The code's table of record types, made of the format's rows and stages, so that no type is written down a second time.
-use Prim.Native.Nat.{ℕ}
+use Prim.Native.Nat.{ℕ, suc}
 use mathlib.Core.Bool.{false, cond}
 use mathlib.Core.List.{List, [], _∷_, map}
 use lib.Dec.{ltb}
 use lib.ListN.{getD}
-use Rattle.format.specs.Bytes.{Bytes, sameBytes}
+use Rattle.format.specs.Ascii.{ascii}
+use Rattle.format.specs.Bytes.{Bytes, sameBytes, among}
 use Rattle.format.specs.Table.{Row as FormatRow, row, rowOf, unknown}
 use Rattle.format.specs.Cwr22.{rows22}
 use Rattle.format.specs.Checks.{code}
@@ -23,6 +24,28 @@ rankOf (spot stage rank) = rank
 abbrev pub spotAt : ℕ → Bytes → Spot
 spotAt i t = getD (spots t) i (spot 0 0)
 
+-- what is judged of a record of the type besides its order; each list holds the types of one sort, counted from 1
+abbrev pub sorts : List (List Bytes)
+sorts =
+    (ascii "NWR" ∷ ascii "REV" ∷ [])
+    ∷ (ascii "SPU" ∷ ascii "OPU" ∷ [])
+    ∷ (ascii "SWR" ∷ ascii "OWR" ∷ [])
+    ∷ (ascii "EWT" ∷ [])
+    ∷ (ascii "VER" ∷ [])
+    ∷ (ascii "PER" ∷ [])
+    ∷ (ascii "REC" ∷ [])
+    ∷ (ascii "INS" ∷ ascii "IND" ∷ [])
+    ∷ (ascii "TER" ∷ ascii "IPA" ∷ ascii "NPA" ∷ ascii "MSG" ∷ [])
+    ∷ []
+
+-- 0 where no list holds the type
+abbrev pub sortFrom : ℕ → Bytes → List (List Bytes) → ℕ
+sortFrom n t [] = 0
+sortFrom n t (ts ∷ rest) = cond (among t ts) n (sortFrom (suc n) t rest)
+
+unfoldable pub sortOf : Bytes → ℕ
+sortOf t = sortFrom 1 t sorts
+
 -- one rank serves for all spots of a type: no type has spots of two ranks
 abbrev pub codeRow : FormatRow → Row
 codeRow (row t n c) =
@@ -37,6 +60,7 @@ codeRow (row t n c) =
       third = stageOf (spotAt 2 t);
       rank = rankOf (spotAt 0 t);
       alone = begins t;
+      sort = sortOf t;
     }
 
 unfoldable pub kinds : List Row
@@ -52,7 +76,7 @@ abbrev pub typeOf : Row → Bytes
 typeOf r = r .a ∷ r .b ∷ r .c ∷ []
 
 abbrev pub noRow : Row
-noRow = record { a = 0; b = 0; c = 0; place = code unknown; length = 0; first = 0; second = 0; third = 0; rank = 0; alone = false }
+noRow = record { a = 0; b = 0; c = 0; place = code unknown; length = 0; first = 0; second = 0; third = 0; rank = 0; alone = false; sort = 0 }
 
 abbrev pub firstOf : List Row → Bytes → Row
 firstOf [] t = noRow

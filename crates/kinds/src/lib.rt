@@ -26,6 +26,8 @@ pub struct Row {
     pub rank: u8,
     // Whether it may begin its stage without the leader.
     pub alone: bool,
+    // What is judged of its records besides their order: NOTHING to MISPLACED, below.
+    pub sort: u8,
 }
 
 impl Row {
@@ -50,6 +52,32 @@ pub const GRT: u8 = 4;
 pub const TRL: u8 = 5;
 
 pub const UNKNOWN: u8 = 6;
+
+// The sorts, numbered as by the list of them in specs/Rows.antt.
+pub const NOTHING: u8 = 0;
+
+// NWR, REV.
+pub const HEADER: u8 = 1;
+
+// SPU, OPU.
+pub const PUBLISHER: u8 = 2;
+
+// SWR, OWR.
+pub const WRITER: u8 = 3;
+
+pub const EWT: u8 = 4;
+
+pub const VER: u8 = 5;
+
+pub const PER: u8 = 6;
+
+pub const REC: u8 = 7;
+
+// INS, IND.
+pub const INSTRUMENT: u8 = 8;
+
+// TER, IPA, NPA, MSG.
+pub const MISPLACED: u8 = 9;
 
 // The table. No other function names ROWS: each that does builds it on its stack, and takes seconds to check. A walk over records
 // calls this once, before its loop.
@@ -135,6 +163,7 @@ fn no_row() -> Row
         third: 0,
         rank: 0,
         alone: false,
+        sort: NOTHING,
     }
 }
 
@@ -205,6 +234,7 @@ pub const ROWS: [Row; 38] = [
         third: 0,
         rank: 0,
         alone: false,
+        sort: NOTHING,
     },
     Row {
         a: b'G',
@@ -217,6 +247,7 @@ pub const ROWS: [Row; 38] = [
         third: 0,
         rank: 0,
         alone: false,
+        sort: NOTHING,
     },
     Row {
         a: b'G',
@@ -229,6 +260,7 @@ pub const ROWS: [Row; 38] = [
         third: 0,
         rank: 0,
         alone: false,
+        sort: NOTHING,
     },
     Row {
         a: b'T',
@@ -241,6 +273,7 @@ pub const ROWS: [Row; 38] = [
         third: 0,
         rank: 0,
         alone: false,
+        sort: NOTHING,
     },
     Row {
         a: b'N',
@@ -253,6 +286,7 @@ pub const ROWS: [Row; 38] = [
         third: 0,
         rank: 0,
         alone: false,
+        sort: HEADER,
     },
     Row {
         a: b'R',
@@ -265,6 +299,7 @@ pub const ROWS: [Row; 38] = [
         third: 0,
         rank: 0,
         alone: false,
+        sort: HEADER,
     },
     Row {
         a: b'T',
@@ -277,6 +312,7 @@ pub const ROWS: [Row; 38] = [
         third: 0,
         rank: 0,
         alone: false,
+        sort: MISPLACED,
     },
     Row {
         a: b'I',
@@ -289,6 +325,7 @@ pub const ROWS: [Row; 38] = [
         third: 0,
         rank: 0,
         alone: false,
+        sort: MISPLACED,
     },
     Row {
         a: b'N',
@@ -301,6 +338,7 @@ pub const ROWS: [Row; 38] = [
         third: 0,
         rank: 0,
         alone: false,
+        sort: MISPLACED,
     },
     Row {
         a: b'S',
@@ -313,6 +351,7 @@ pub const ROWS: [Row; 38] = [
         third: 0,
         rank: 0,
         alone: false,
+        sort: PUBLISHER,
     },
     Row {
         a: b'O',
@@ -325,6 +364,7 @@ pub const ROWS: [Row; 38] = [
         third: 0,
         rank: 0,
         alone: false,
+        sort: PUBLISHER,
     },
     Row {
         a: b'N',
@@ -337,6 +377,7 @@ pub const ROWS: [Row; 38] = [
         third: 0,
         rank: 1,
         alone: false,
+        sort: NOTHING,
     },
     Row {
         a: b'S',
@@ -349,6 +390,7 @@ pub const ROWS: [Row; 38] = [
         third: 0,
         rank: 2,
         alone: false,
+        sort: NOTHING,
     },
     Row {
         a: b'O',
@@ -361,6 +403,7 @@ pub const ROWS: [Row; 38] = [
         third: 0,
         rank: 2,
         alone: false,
+        sort: NOTHING,
     },
     Row {
         a: b'S',
@@ -373,6 +416,7 @@ pub const ROWS: [Row; 38] = [
         third: 0,
         rank: 0,
         alone: false,
+        sort: WRITER,
     },
     Row {
         a: b'O',
@@ -385,6 +429,7 @@ pub const ROWS: [Row; 38] = [
         third: 0,
         rank: 0,
         alone: false,
+        sort: WRITER,
     },
     Row {
         a: b'N',
@@ -397,6 +442,7 @@ pub const ROWS: [Row; 38] = [
         third: 0,
         rank: 1,
         alone: false,
+        sort: NOTHING,
     },
     Row {
         a: b'S',
@@ -409,6 +455,7 @@ pub const ROWS: [Row; 38] = [
         third: 0,
         rank: 2,
         alone: false,
+        sort: NOTHING,
     },
     Row {
         a: b'O',
@@ -421,6 +468,7 @@ pub const ROWS: [Row; 38] = [
         third: 0,
         rank: 2,
         alone: false,
+        sort: NOTHING,
     },
     Row {
         a: b'P',
@@ -433,6 +481,7 @@ pub const ROWS: [Row; 38] = [
         third: 0,
         rank: 3,
         alone: false,
+        sort: NOTHING,
     },
     Row {
         a: b'A',
@@ -445,6 +494,7 @@ pub const ROWS: [Row; 38] = [
         third: 0,
         rank: 0,
         alone: false,
+        sort: NOTHING,
     },
     Row {
         a: b'N',
@@ -457,6 +507,7 @@ pub const ROWS: [Row; 38] = [
         third: 0,
         rank: 0,
         alone: false,
+        sort: NOTHING,
     },
     Row {
         a: b'E',
@@ -469,6 +520,7 @@ pub const ROWS: [Row; 38] = [
         third: 0,
         rank: 0,
         alone: false,
+        sort: EWT,
     },
     Row {
         a: b'V',
@@ -481,6 +533,7 @@ pub const ROWS: [Row; 38] = [
         third: 0,
         rank: 0,
         alone: false,
+        sort: VER,
     },
     Row {
         a: b'P',
@@ -493,6 +546,7 @@ pub const ROWS: [Row; 38] = [
         third: 0,
         rank: 0,
         alone: false,
+        sort: PER,
     },
     Row {
         a: b'N',
@@ -505,6 +559,7 @@ pub const ROWS: [Row; 38] = [
         third: 0,
         rank: 1,
         alone: true,
+        sort: NOTHING,
     },
     Row {
         a: b'R',
@@ -517,6 +572,7 @@ pub const ROWS: [Row; 38] = [
         third: 0,
         rank: 0,
         alone: false,
+        sort: REC,
     },
     Row {
         a: b'O',
@@ -529,6 +585,7 @@ pub const ROWS: [Row; 38] = [
         third: 0,
         rank: 0,
         alone: false,
+        sort: NOTHING,
     },
     Row {
         a: b'I',
@@ -541,6 +598,7 @@ pub const ROWS: [Row; 38] = [
         third: 0,
         rank: 0,
         alone: false,
+        sort: INSTRUMENT,
     },
     Row {
         a: b'I',
@@ -553,6 +611,7 @@ pub const ROWS: [Row; 38] = [
         third: 0,
         rank: 1,
         alone: true,
+        sort: INSTRUMENT,
     },
     Row {
         a: b'C',
@@ -565,6 +624,7 @@ pub const ROWS: [Row; 38] = [
         third: 0,
         rank: 0,
         alone: false,
+        sort: NOTHING,
     },
     Row {
         a: b'M',
@@ -577,6 +637,7 @@ pub const ROWS: [Row; 38] = [
         third: 0,
         rank: 0,
         alone: false,
+        sort: MISPLACED,
     },
     Row {
         a: b'N',
@@ -589,6 +650,7 @@ pub const ROWS: [Row; 38] = [
         third: 0,
         rank: 1,
         alone: false,
+        sort: NOTHING,
     },
     Row {
         a: b'N',
@@ -601,6 +663,7 @@ pub const ROWS: [Row; 38] = [
         third: 0,
         rank: 1,
         alone: false,
+        sort: NOTHING,
     },
     Row {
         a: b'N',
@@ -613,6 +676,7 @@ pub const ROWS: [Row; 38] = [
         third: 0,
         rank: 1,
         alone: false,
+        sort: NOTHING,
     },
     Row {
         a: b'N',
@@ -625,6 +689,7 @@ pub const ROWS: [Row; 38] = [
         third: 13,
         rank: 2,
         alone: false,
+        sort: NOTHING,
     },
     Row {
         a: b'A',
@@ -637,6 +702,7 @@ pub const ROWS: [Row; 38] = [
         third: 0,
         rank: 0,
         alone: false,
+        sort: NOTHING,
     },
     Row {
         a: b'X',
@@ -649,5 +715,6 @@ pub const ROWS: [Row; 38] = [
         third: 0,
         rank: 0,
         alone: false,
+        sort: NOTHING,
     },
 ];

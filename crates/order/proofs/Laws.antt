@@ -18,7 +18,7 @@ use Rattle.rules.specs.Records.{only}
 use Rattle.rules.specs.Other.{is24}
 use Rattle.rules.specs.Order.{mayTake, firstFit, taken, on, walk, nowhere, outset, ordered, reached, is8}
 use Rattle.rules.proofs.Lists.{only-kept, only-left}
-use Rattle.kinds.specs.Rows.{codeRow, column, spotsOf, rowFor}
+use Rattle.kinds.specs.Rows.{codeRow, column, spotsOf, sortOf, rowFor}
 use Rattle.kinds.specs.declared.Row.{Row}
 use Rattle.kinds.proofs.Laws.{row-cases, stage-spots, alone-begins}
 use Rattle.kinds.proofs.Tests.{by-cases}
@@ -44,7 +44,7 @@ spotless : FormatRow → Bool
 spotless (row t n c) = not (is detail c) || same (eqb (codeRow (row t n c) .first) 0) (named24 t)
 
 all-spotless : every spotless rows22 ≡ true
-unfolding rows22 spotless same named24 spots begins stages
+unfolding rows22 spotless same named24 spots begins stages sortOf
 all-spotless = refl
 
 or-second : (a b : Bool) → a ≡ true → (not a || b) ≡ true → b ≡ true

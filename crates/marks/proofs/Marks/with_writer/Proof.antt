@@ -1,0 +1,10 @@
+-- `marks::Marks::with_writer` meets its contract. Assumes nothing.
+use Rattle.marks.proofs.Laws.{writer-on}
+use Rattle.marks.proofs.Marks.with_writer.Statement.{statement}
+use Rattle.marks.proofs.Marks.with_writer.Tie as tie
+
+returns : tie.Need-returns
+returns c ds r h w cs gs us = writer-on (c .before .before .before .args .self) ds r h (c .before .before .before .args .creator) (c .before .before .before .args .changer) (c .before .before .before .args .author) w cs gs us
+
+pub with-writer-spec : {M : Type 1} → statement M
+with-writer-spec = tie.close (tie.spec returns)
