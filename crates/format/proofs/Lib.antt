@@ -11,5 +11,6 @@ pub mod Branches
 pub mod Walks
 pub mod Numbering
 pub mod Fits
+pub mod Near
 pub mod At22
 pub mod Examples

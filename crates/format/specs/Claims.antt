@@ -100,3 +100,11 @@ pub record Numbers (𝕋 : Table) : Type 0 where
   -- and so twice is once
   pub twice : (f : Bytes) (g t n : ℕ) → numbering 𝕋 f ≡ passed g t n
       → (numbering 𝕋 (numberedFile 𝕋 f) ≡ passed g t n) × (numberedFile 𝕋 (numberedFile 𝕋 f) ≡ numberedFile 𝕋 f)
+
+-- a place, and a count of records, in 32 bits with much room
+abbrev pub Near : Answer → Type 0
+Near (refused n i) = i ≤ mostBytes
+Near (passed g t n) = n ≤ mostRecords
+
+abbrev pub Nearby : Table → Type 0
+Nearby 𝕋 = (f : Bytes) → Near (structure 𝕋 f) × Near (numbering 𝕋 f)
