@@ -4,17 +4,19 @@ use mathlib.Core.Path.{_≡_, refl, sym, ap}
 use mathlib.Core.Bool.{true, false, false≢true}
 use mathlib.Core.List.{_++_}
 use lib.ListN.{length, drop}
+use lib.Dec.{leb}
 use borrow.Author.Tests.{le-leb, lt-leb}
 use Rattle.format.specs.Bytes.{Bytes}
 use Rattle.format.specs.Cwr22.{cwr22}
 use Rattle.format.specs.Lines.{good, lines}
 use Rattle.format.specs.Structure.{Answer, refused, passed}
 use Rattle.format.specs.Numbering.{placed, numbering, numberedFile}
+use Rattle.format.specs.Room.{inRoom, leftIn}
 use Rattle.format.proofs.Answers.{file-read, answer-placed}
 use Rattle.format.proofs.At22.{numbers-22}
 use Rattle.answers.specs.Numbers.{isPassed}
 use Rattle.structure.specs.Rest.{isGood}
-use Rattle.numbering.specs.Outcome.{inRoom, leftIn, numberAnswer, numberBuffer}
+use Rattle.numbering.specs.Outcome.{numberAnswer, numberBuffer}
 use Rattle.numbering.specs.Fill.{Sized}
 
 -- a file that numbering takes has good lines, and records right by 6
@@ -34,7 +36,7 @@ module _ (f old : Bytes) (a : Answer) (is : a ≡ numbering cwr22 f) where
   unfolding numberAnswer numberBuffer
   refused-so e = rw (← is) (go a e)
     where
-      go : (b : Answer) → isPassed b ≡ false → (b ≡ inRoom (length f) (length old) b) × (old ≡ leftIn (inRoom (length f) (length old) b) (numberedFile cwr22 f) old)
+      go : (b : Answer) → isPassed b ≡ false → (b ≡ inRoom (λ _. leb (length f) (length old)) b) × (old ≡ leftIn (inRoom (λ _. leb (length f) (length old)) b) (numberedFile cwr22 f) old)
       go (refused n i) q = (refl, refl)
       go (passed g t r) q = absurd (false≢true (sym q))
 
@@ -43,7 +45,7 @@ module _ (f old : Bytes) (a : Answer) (is : a ≡ numbering cwr22 f) where
     unfolding numberAnswer numberBuffer
     short-so h = rw (← is) (go a e)
       where
-        go : (b : Answer) → isPassed b ≡ true → (refused 11 0 ≡ inRoom (length f) (length old) b) × (old ≡ leftIn (inRoom (length f) (length old) b) (numberedFile cwr22 f) old)
+        go : (b : Answer) → isPassed b ≡ true → (refused 11 0 ≡ inRoom (λ _. leb (length f) (length old)) b) × (old ≡ leftIn (inRoom (λ _. leb (length f) (length old)) b) (numberedFile cwr22 f) old)
         go (refused n i) q = absurd (false≢true q)
         go (passed g t r) q = rw (lt-leb (length f) (length old) h) (refl, refl)
 
@@ -53,7 +55,7 @@ module _ (f old : Bytes) (a : Answer) (is : a ≡ numbering cwr22 f) where
     filled-so h new w = rw (← is) (go a e is)
       where
         go : (b : Answer) → isPassed b ≡ true → b ≡ numbering cwr22 f
-            → (b ≡ inRoom (length f) (length old) b) × (new ≡ leftIn (inRoom (length f) (length old) b) (numberedFile cwr22 f) old)
+            → (b ≡ inRoom (λ _. leb (length f) (length old)) b) × (new ≡ leftIn (inRoom (λ _. leb (length f) (length old)) b) (numberedFile cwr22 f) old)
         go (refused n i) q k = absurd (false≢true q)
         go (passed g t r) q k =
             let l = numbers-22 .as-long f (g, t, r, sym k) in
