@@ -1,3 +1,4 @@
 pub mod Lists
 pub mod Types
 pub mod Examples
+pub mod Fields

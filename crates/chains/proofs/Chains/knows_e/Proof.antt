@@ -1,0 +1,17 @@
+use native.Mathlib.Omega.{arith}
+use borrow.Author.Needs.{needs}
+use Rattle.chains.proofs.Chains.knows_e.Statement.{statement}
+use Rattle.chains.proofs.Chains.knows_e.Tie as tie
+use Rattle.chains.proofs.Chains.knows_e.Reads as reads
+use Rattle.chains.proofs.Chains.knows_e.Lts as lts
+
+-- src/lib.rt:73:9
+element-copy-out-result : tie.Need-element-copy-out-result
+element-copy-out-result c = search needs
+
+-- src/lib.rt:69:5
+returns : tie.Need-returns
+returns c = search needs
+
+pub knows-e-spec : {M : Type 1} → statement M
+knows-e-spec = tie.close (tie.spec element-copy-out-result returns)

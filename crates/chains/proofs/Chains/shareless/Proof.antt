@@ -1,0 +1,59 @@
+use native.Mathlib.Omega.{arith}
+use borrow.Author.Needs.{needs}
+use Rattle.chains.proofs.Chains.shareless.Statement.{statement}
+use Rattle.chains.proofs.Chains.shareless.Tie as tie
+use Rattle.chains.proofs.Chains.shareless.Reads as reads
+use Rattle.chains.proofs.Chains.shareless.Lts as lts
+
+abbrev Inv-loop : tie.InvT-loop
+Inv-loop begun sums found₀ k₀ found k = ?
+
+abbrev μ-loop : tie.MeasureT-loop
+μ-loop begun sums found₀ k₀ found k = length s - i
+
+-- src/lib.rt:83:9
+loop-holds : tie.Need-loop-holds Inv-loop μ-loop
+loop-holds c = search needs
+
+-- src/lib.rt:84:31
+array-read-found : tie.Need-array-read-found Inv-loop μ-loop
+array-read-found c = search needs
+
+-- src/lib.rt:84:49
+mul-found : tie.Need-mul-found Inv-loop μ-loop
+mul-found c = search needs
+
+-- src/lib.rt:84:49
+array-read-found-2 : tie.Need-array-read-found-2 Inv-loop μ-loop
+array-read-found-2 c = search needs
+
+-- src/lib.rt:83:13
+add-k : tie.Need-add-k Inv-loop μ-loop
+add-k c = search needs
+
+-- src/lib.rt:83:9
+loop-less : tie.Need-loop-less Inv-loop μ-loop
+loop-less c = search needs
+
+-- src/lib.rt:83:9
+loop-again : tie.Need-loop-again Inv-loop μ-loop
+loop-again c = search needs
+
+-- src/lib.rt:77:5
+returns : tie.Need-returns Inv-loop μ-loop
+returns c = search needs
+
+pub shareless-spec : {M : Type 1} → statement M
+shareless-spec =
+    tie.close
+    (tie.spec
+    Inv-loop
+    μ-loop
+    loop-holds
+    array-read-found
+    mul-found
+    array-read-found-2
+    add-k
+    loop-less
+    loop-again
+    returns)

@@ -1,0 +1,236 @@
+-- The tallies: what they are with one record more, that a record in no chain leaves them, that they stay small, and what is read from
+-- them. Assumes nothing.
+use Prim.Native.Nat.{ℕ, zero, suc, _+_, _*_, _^_, _≤_, _<_}
+use native.Mathlib.Omega.{arith}
+use native.Mathlib.Nat.{mul-le-mul-left}
+use mathlib.Core.Path.{_≡_, refl, sym, ap, _∙_, subst}
+use mathlib.Core.Bool.{Bool, true, false, not, cond, _&&_, _||_, and-eq-true-iff, and-true, and-false, and-assoc, or-true, or-false, or-comm}
+use mathlib.Core.List.{List, [], _∷_, _++_}
+use lib.Dec.{ltb, eqb}
+use lib.ListN.{length, getD, set, replicate, getD-replicate}
+use lib.Seq.{getD-set-same, getD-set-other}
+use borrow.Author.Tests.{eqb-true, eq-eqb, lt-ltb}
+use Rattle.format.specs.Bytes.{Bytes, All, sameBytes}
+use Rattle.format.specs.Fields.{areDigits, numberOf}
+use Rattle.format.proofs.Logic.{is-true, is-T, sameBytes→eq, sameBytes-refl}
+use Rattle.rules.specs.Records.{isType, isPublisher, only, any}
+use Rattle.rules.specs.Publisher.{sequenceNumber, isE, isAQ, hasShare, sameChain}
+use Rattle.rules.specs.Totals.{PR, MR, SR, publisherShare, sumOf}
+use Rattle.rules.specs.Chains.{inChain, chain, anyBelow, anyChain, manyE, joinedByOPU, aqBehind, allShares, countsSPU, paidE, begunBySPU, shareless, is11, is12, is13, is14}
+use Rattle.rules.proofs.Lists.{any-last, count-last, sum-only-last, any-only, any-same, only-fewer, sum-most}
+use Rattle.rules.proofs.Fields.{all-shares-most, two-digits}
+use Rattle.chains.specs.declared.Chains.{Chains}
+use Rattle.chains.specs.Tallies.{begunBy, ownE, TallyOf, Tallied, Small, Whole}
+use Rattle.chains.proofs.Growth.{chain-kept, chain-left, elsewhere, same-or-not, flag-more, many-more, joined-more, behind-more, begun-more}
+
+-- ---- one record more
+
+-- the entry of the chain that a record joins is set to what it is of that chain then; the other entries stand
+tally-more : {A : Type 0} (l : List A) (beyond : A) (d : List Bytes → A) (k : ℕ) (ds : List Bytes) (r : Bytes) (v : A)
+    → length l ≡ 100 → k < 100 → inChain k r ≡ true → TallyOf l beyond d ds → v ≡ d (chain k ds ++ r ∷ []) → TallyOf (set l k v) beyond d (ds ++ r ∷ [])
+tally-more l beyond d k ds r v len h inside t e j hj =
+    same-or-not j k
+    (λ q. rw (q, getD-set-same l k v beyond (omega arith), chain-kept k ds r inside) e)
+    (λ n. getD-set-other l k j v beyond n ∙ t j hj ∙ ap d (sym (chain-left j ds r (elsewhere j k r inside n))))
+
+tally-left : {A : Type 0} (l : List A) (beyond : A) (d : List Bytes → A) (ds : List Bytes) (r : Bytes)
+    → ((k : ℕ) → k < 100 → inChain k r ≡ false) → TallyOf l beyond d ds → TallyOf l beyond d (ds ++ r ∷ [])
+tally-left l beyond d ds r out t k h = t k h ∙ ap d (sym (chain-left k ds r (out k h)))
+
+has-share : (a b c : ℕ) → ltb 0 (a + b + c) ≡ (ltb 0 a || ltb 0 b || ltb 0 c)
+has-share (suc a) b c = rw (lt-ltb 0 (suc a + b + c) (omega arith), lt-ltb 0 (suc a) (omega arith))
+has-share zero (suc b) c = rw (lt-ltb 0 (0 + suc b + c) (omega arith), lt-ltb 0 (suc b) (omega arith))
+has-share zero zero c = let e : 0 + 0 + c ≡ c = omega arith in rw e
+
+publisher-in : (k : ℕ) (r : Bytes) → inChain k r ≡ true → isPublisher r ≡ true
+publisher-in k r e = and-eq-true-iff _ _ .0 (and-eq-true-iff (isPublisher r && areDigits (sequenceNumber r)) _ .0 e .0) .0
+
+-- every array has its hundred entries
+pub record Hundred (c : Chains) : Type 0 where
+  pub begun : length (c .begun) ≡ 100
+  pub es : length (c .es) ≡ 100
+  pub own : length (c .own) ≡ 100
+  pub paid : length (c .paid) ≡ 100
+  pub sums : length (c .sums) ≡ 100
+
+-- as `Chains::with` writes it
+abbrev pub joinedBy : Chains → ℕ → Bool → Bool → Bool → ℕ → Chains
+joinedBy c k spu e aq shares =
+    record {
+      begun = set (c .begun) k (cond (eqb (getD (c .begun) k 0) 0) (cond spu 1 2) (getD (c .begun) k 0));
+      es = set (c .es) k (getD (c .es) k 0 + cond e 1 0);
+      own = set (c .own) k (getD (c .own) k false || (spu && e));
+      paid = set (c .paid) k (getD (c .paid) k false || (e && ltb 0 shares));
+      sums = set (c .sums) k (getD (c .sums) k 0 + cond (spu && (e || aq)) shares 0);
+      many = c .many || (e && ltb 0 (getD (c .es) k 0));
+      joined = c .joined || (not spu && eqb (getD (c .begun) k 0) 1);
+      behind = c .behind || (getD (c .paid) k false && spu && aq);
+    }
+
+module _ (c : Chains) (whole : Hundred c) (k : ℕ) (h : k < 100) (ds : List Bytes) (r : Bytes) (t : Tallied c ds) (inside : inChain k r ≡ true) where
+  abbrev before : List Bytes
+  before = chain k ds
+
+  many-then : (c .many || (isE r && ltb 0 (getD (c .es) k 0))) ≡ is11 (ds ++ r ∷ [])
+  unfolding is11
+  many-then = flag-more manyE k ds r _ inside (rw (t .es k h) (many-more before r)) (c .many) h (t .many)
+
+  joined-then : (c .joined || (not (isType "SPU" r) && eqb (getD (c .begun) k 0) 1)) ≡ is13 (ds ++ r ∷ [])
+  unfolding is13
+  joined-then = flag-more joinedByOPU k ds r _ inside (rw (t .begun k h) (joined-more before r (publisher-in k r inside))) (c .joined) h (t .joined)
+
+  behind-then : (c .behind || (getD (c .paid) k false && isType "SPU" r && isAQ r)) ≡ is14 (ds ++ r ∷ [])
+  unfolding is14
+  behind-then = flag-more (aqBehind false) k ds r _ inside (rw (t .paid k h) (behind-more false before r)) (c .behind) h (t .behind)
+
+  paid-then : (getD (c .paid) k false || (isE r && ltb 0 (allShares r))) ≡ any paidE (before ++ r ∷ [])
+  paid-then =
+      ap (λ (b : Bool). getD (c .paid) k false || (isE r && b)) (has-share (publisherShare PR r) (publisherShare MR r) (publisherShare SR r))
+      ∙ ap (λ (b : Bool). b || paidE r) (t .paid k h)
+      ∙ sym (any-last paidE before r)
+
+  pub more : Tallied (joinedBy c k (isType "SPU" r) (isE r) (isAQ r) (allShares r)) (ds ++ r ∷ [])
+  more =
+      record {
+        begun = tally-more (c .begun) 0 begunBy k ds r _ (whole .begun) h inside (t .begun) (rw (t .begun k h) (sym (begun-more before r)));
+        es = tally-more (c .es) 0 (λ rs. length (only isE rs)) k ds r _ (whole .es) h inside (t .es) (rw (t .es k h) (sym (count-last isE before r)));
+        own = tally-more (c .own) false (any ownE) k ds r _ (whole .own) h inside (t .own) (rw (t .own k h) (sym (any-last ownE before r)));
+        paid =
+          tally-more (c .paid) false (any paidE) k ds r _ (whole .paid) h inside (t .paid) paid-then;
+        sums =
+          tally-more (c .sums) 0 (λ rs. sumOf allShares (only countsSPU rs)) k ds r _ (whole .sums) h inside (t .sums)
+          (rw (t .sums k h) (sym (sum-only-last countsSPU allShares before r)));
+        many = many-then;
+        joined = joined-then;
+        behind = behind-then;
+      }
+
+-- the same, with the record's properties as the walk knows them
+pub with-more : (c : Chains) (k : ℕ) (ds : List Bytes) (r : Bytes) (spu e aq : Bool) (shares : ℕ) → Hundred c → k < 100 → Tallied c ds → inChain k r ≡ true
+    → isType "SPU" r ≡ spu → isE r ≡ e → isAQ r ≡ aq → allShares r ≡ shares → Tallied (joinedBy c k spu e aq shares) (ds ++ r ∷ [])
+with-more c k ds r spu e aq shares whole h t inside p q s n = rw (← p, ← q, ← s, ← n) (more c whole k h ds r t inside)
+
+-- ---- a record in no chain
+
+below-left : (p : List Bytes → Bool) (ds : List Bytes) (r : Bytes) → ((k : ℕ) → k < 100 → inChain k r ≡ false) → (n : ℕ) → n ≤ 100
+    → anyBelow n p (ds ++ r ∷ []) ≡ anyBelow n p ds
+below-left p ds r out zero h = refl
+below-left p ds r out (suc n) h = rw (chain-left n ds r (out n (omega arith)), below-left p ds r out n (omega arith))
+
+module _ (c : Chains) (ds : List Bytes) (r : Bytes) (t : Tallied c ds) where
+  flag-left : (p : List Bytes → Bool) (flag : Bool) → ((k : ℕ) → k < 100 → inChain k r ≡ false) → flag ≡ anyChain p ds → flag ≡ anyChain p (ds ++ r ∷ [])
+  flag-left p flag out e = e ∙ sym (below-left p ds r out 100 (omega arith))
+
+  pub outside : ((k : ℕ) → k < 100 → inChain k r ≡ false) → Tallied c (ds ++ r ∷ [])
+  unfolding is11 is13 is14
+  outside out =
+      record {
+        begun = tally-left (c .begun) 0 begunBy ds r out (t .begun);
+        es = tally-left (c .es) 0 (λ rs. length (only isE rs)) ds r out (t .es);
+        own = tally-left (c .own) false (any ownE) ds r out (t .own);
+        paid = tally-left (c .paid) false (any paidE) ds r out (t .paid);
+        sums = tally-left (c .sums) 0 (λ rs. sumOf allShares (only countsSPU rs)) ds r out (t .sums);
+        many = flag-left manyE (c .many) out (t .many);
+        joined = flag-left joinedByOPU (c .joined) out (t .joined);
+        behind = flag-left (aqBehind false) (c .behind) out (t .behind);
+      }
+
+  -- it is no publisher
+  pub no-publisher : isPublisher r ≡ false → Tallied c (ds ++ r ∷ [])
+  no-publisher e = outside (λ k h. rw e)
+
+  -- its sequence number is not two digits
+  pub no-number : areDigits (sequenceNumber r) ≡ false → Tallied c (ds ++ r ∷ [])
+  no-number e = outside (λ k h. rw (e, and-false (isPublisher r)))
+
+-- ---- no records yet
+
+pub begins : Tallied (record { begun = replicate 100 0; es = replicate 100 0; own = replicate 100 false; paid = replicate 100 false; sums = replicate 100 0; many = false; joined = false; behind = false }) []
+unfolding chain is11 is13 is14
+begins =
+    record {
+      begun = λ k h. getD-replicate {A = ℕ} 100 k 0 0 h;
+      es = λ k h. getD-replicate {A = ℕ} 100 k 0 0 h;
+      own = λ k h. getD-replicate {A = Bool} 100 k false false h;
+      paid = λ k h. getD-replicate {A = Bool} 100 k false false h;
+      sums = λ k h. getD-replicate {A = ℕ} 100 k 0 0 h;
+      many = refl;
+      joined = refl;
+      behind = refl;
+    }
+
+-- ---- the tallies of a file's records are small
+
+chain-fewer : (k : ℕ) (ds : List Bytes) → length (chain k ds) ≤ length ds
+unfolding chain
+chain-fewer k ds = only-fewer (inChain k) ds
+
+pub small : (c : Chains) (ds : List Bytes) → Tallied c ds → length ds ≤ 131072 → Small c
+small c ds t h =
+    record {
+      es≤ = λ k b. rw (t .es k b) (omega (arith, only-fewer isE (chain k ds), chain-fewer k ds));
+      sums≤ =
+        λ k b. rw (t .sums k b)
+        (omega (arith, sum-most allShares 299997 all-shares-most (only countsSPU (chain k ds)), only-fewer countsSPU (chain k ds), chain-fewer k ds));
+    }
+
+-- ---- an SPU of type E in the chain of a record
+
+both-ways : (a b : Bool) → (a ≡ true → b ≡ true) → (b ≡ true → a ≡ true) → a ≡ b
+both-ways true b f g = sym (f refl)
+both-ways false true f g = g refl
+both-ways false false f g = refl
+
+-- two digits write k just where they are the two digits that write k
+same-number : (f g : Bytes) (k : ℕ) → length f ≡ 2 → length g ≡ 2 → areDigits g ≡ true → numberOf g ≡ k → (areDigits f && eqb (numberOf f) k) ≡ sameBytes f g
+same-number f g k h j d n =
+    both-ways (areDigits f && eqb (numberOf f) k) (sameBytes f g)
+    (λ e. let b = and-eq-true-iff (areDigits f) (eqb (numberOf f) k) .0 e in
+        rw (two-digits f g h j (b .0) d (eqb-true (numberOf f) k (b .1) ∙ sym n)) (is-true (sameBytes g g) (sameBytes-refl g)))
+    (λ e. rw (sameBytes→eq f g (is-T (sameBytes f g) e), d) (eq-eqb (numberOf g) k n))
+
+-- a record is in chain k just where it is in the chain of a record of chain k
+in-same : (k : ℕ) (r p : Bytes) → Whole r → Whole p → inChain k r ≡ true → inChain k p ≡ sameChain r p
+in-same k r p hr hp inside =
+    let b = and-eq-true-iff (isPublisher r && areDigits (sequenceNumber r)) (eqb (numberOf (sequenceNumber r)) k) .0 inside in
+    let d : areDigits (sequenceNumber r) ≡ true = and-eq-true-iff (isPublisher r) (areDigits (sequenceNumber r)) .0 (b .0) .1 in
+    and-assoc (isPublisher p) (areDigits (sequenceNumber p)) (eqb (numberOf (sequenceNumber p)) k)
+    ∙ ap (λ (x : Bool). isPublisher p && x) (same-number (sequenceNumber p) (sequenceNumber r) k hp hr d (eqb-true (numberOf (sequenceNumber r)) k (b .1)))
+    ∙ rw (d, and-true (isPublisher p))
+
+module _ (k : ℕ) (r : Bytes) (hr : Whole r) (inside : inChain k r ≡ true) where
+  all-same : (ds : List Bytes) → All Whole ds → All (λ p. (inChain k p && ownE p) ≡ (sameChain r p && isType "SPU" p && isE p)) ds
+  all-same [] w = tt
+  all-same (p ∷ ds) w =
+      (ap (λ (b : Bool). b && ownE p) (in-same k r p hr (w .0) inside) ∙ sym (and-assoc (sameChain r p) (isType "SPU" p) (isE p)), all-same ds (w .1))
+
+  pub knows : (c : Chains) (ds : List Bytes) → k < 100 → Tallied c ds → All Whole ds → getD (c .own) k false ≡ any (λ p. sameChain r p && isType "SPU" p && isE p) ds
+  unfolding chain
+  knows c ds h t w =
+      t .own k h
+      ∙ any-only (inChain k) ownE ds
+      ∙ any-same (λ p. inChain k p && ownE p) (λ p. sameChain r p && isType "SPU" p && isE p) ds (all-same ds w)
+
+-- ---- 12, as `Chains::shareless` looks for it
+
+-- some chain of a number below n
+abbrev pub foundBelow : List ℕ → List ℕ → ℕ → Bool
+foundBelow begun sums zero = false
+foundBelow begun sums (suc n) = foundBelow begun sums n || (eqb (getD begun n 0) 1 && eqb (getD sums n 0) 0)
+
+begun-spu : (c : List Bytes) → eqb (begunBy c) 1 ≡ begunBySPU c
+begun-spu [] = refl
+begun-spu (r ∷ c) = one-or-two (isType "SPU" r)
+  where
+    one-or-two : (s : Bool) → eqb (cond s 1 2) 1 ≡ s
+    one-or-two true = refl
+    one-or-two false = refl
+
+found-below : (c : Chains) (ds : List Bytes) → Tallied c ds → (n : ℕ) → n ≤ 100 → foundBelow (c .begun) (c .sums) n ≡ anyBelow n shareless ds
+found-below c ds t zero h = refl
+found-below c ds t (suc n) h =
+    rw (t .begun n h, t .sums n h, begun-spu (chain n ds), found-below c ds t n (omega arith)) (or-comm (anyBelow n shareless ds) (shareless (chain n ds)))
+
+pub found-is : (c : Chains) (ds : List Bytes) → Tallied c ds → foundBelow (c .begun) (c .sums) 100 ≡ is12 ds
+unfolding is12
+found-is c ds t = found-below c ds t 100 (omega arith)
