@@ -96,10 +96,10 @@ module _ (c : Chains) (whole : Hundred c) (k : ℕ) (h : k < 100) (ds : List Byt
         es = tally-more (c .es) 0 (λ rs. length (only isE rs)) k ds r _ (whole .es) h inside (t .es) (rw (t .es k h) (sym (count-last isE before r)));
         own = tally-more (c .own) false (any ownE) k ds r _ (whole .own) h inside (t .own) (rw (t .own k h) (sym (any-last ownE before r)));
         paid =
-          tally-more (c .paid) false (any paidE) k ds r _ (whole .paid) h inside (t .paid) paid-then;
+            tally-more (c .paid) false (any paidE) k ds r _ (whole .paid) h inside (t .paid) paid-then;
         sums =
-          tally-more (c .sums) 0 (λ rs. sumOf allShares (only countsSPU rs)) k ds r _ (whole .sums) h inside (t .sums)
-          (rw (t .sums k h) (sym (sum-only-last countsSPU allShares before r)));
+            tally-more (c .sums) 0 (λ rs. sumOf allShares (only countsSPU rs)) k ds r _ (whole .sums) h inside (t .sums)
+            (rw (t .sums k h) (sym (sum-only-last countsSPU allShares before r)));
         many = many-then;
         joined = joined-then;
         behind = behind-then;
@@ -170,8 +170,8 @@ small c ds t h =
     record {
       es≤ = λ k b. rw (t .es k b) (omega (arith, only-fewer isE (chain k ds), chain-fewer k ds));
       sums≤ =
-        λ k b. rw (t .sums k b)
-        (omega (arith, sum-most allShares 299997 all-shares-most (only countsSPU (chain k ds)), only-fewer countsSPU (chain k ds), chain-fewer k ds));
+          λ k b. rw (t .sums k b)
+          (omega (arith, sum-most allShares 299997 all-shares-most (only countsSPU (chain k ds)), only-fewer countsSPU (chain k ds), chain-fewer k ds));
     }
 
 -- ---- an SPU of type E in the chain of a record
@@ -186,7 +186,7 @@ same-number : (f g : Bytes) (k : ℕ) → length f ≡ 2 → length g ≡ 2 → 
 same-number f g k h j d n =
     both-ways (areDigits f && eqb (numberOf f) k) (sameBytes f g)
     (λ e. let b = and-eq-true-iff (areDigits f) (eqb (numberOf f) k) .0 e in
-        rw (two-digits f g h j (b .0) d (eqb-true (numberOf f) k (b .1) ∙ sym n)) (is-true (sameBytes g g) (sameBytes-refl g)))
+    rw (two-digits f g h j (b .0) d (eqb-true (numberOf f) k (b .1) ∙ sym n)) (is-true (sameBytes g g) (sameBytes-refl g)))
     (λ e. rw (sameBytes→eq f g (is-T (sameBytes f g) e), d) (eq-eqb (numberOf g) k n))
 
 -- a record is in chain k just where it is in the chain of a record of chain k

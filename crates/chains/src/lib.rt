@@ -95,12 +95,14 @@ fn pick(b: bool, this: u8, that: u8) -> u8
 
 fn one(b: bool) -> u32
     ensures { λ r. ⌜ r ≡ cond b 1 0 ⌝ }
+    ensures { λ r. ⌜ r ≤ 1 ⌝ }
 {
     if b { 1 } else { 0 }
 }
 
 fn counted(b: bool, n: u64) -> u64
     ensures { λ r. ⌜ r ≡ cond b n 0 ⌝ }
+    ensures { λ r. ⌜ r ≤ n ⌝ }
 {
     if b { n } else { 0 }
 }

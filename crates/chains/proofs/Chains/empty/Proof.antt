@@ -1,3 +1,4 @@
+use Rattle.chains.proofs.Laws.{begins}
 use native.Mathlib.Omega.{arith}
 use borrow.Author.Needs.{needs}
 use Rattle.chains.proofs.Chains.empty.Statement.{statement}
@@ -7,7 +8,7 @@ use Rattle.chains.proofs.Chains.empty.Lts as lts
 
 -- src/lib.rt:32:5
 returns : tie.Need-returns
-returns c = search needs
+returns c = begins
 
 pub empty-spec : {M : Type 1} → statement M
 empty-spec = tie.close (tie.spec returns)

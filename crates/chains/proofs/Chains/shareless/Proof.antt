@@ -1,3 +1,9 @@
+use Prim.Native.Nat.{_≤_, _-_}
+use mathlib.Core.Path.{_≡_, refl, sym, ap, _∙_}
+use mathlib.Core.Bool.{_||_, _&&_}
+use native.Mathlib.Numerals.{add-one}
+use lib.ListN.{length}
+use Rattle.chains.proofs.Laws.{foundBelow, found-is}
 use native.Mathlib.Omega.{arith}
 use borrow.Author.Needs.{needs}
 use Rattle.chains.proofs.Chains.shareless.Statement.{statement}
@@ -6,14 +12,14 @@ use Rattle.chains.proofs.Chains.shareless.Reads as reads
 use Rattle.chains.proofs.Chains.shareless.Lts as lts
 
 abbrev Inv-loop : tie.InvT-loop
-Inv-loop begun sums found₀ k₀ found k = ?
+Inv-loop begun sums found₀ k₀ found k = (k ≤ 100) × (length begun ≡ 100) × (length sums ≡ 100) × (found ≡ foundBelow begun sums k)
 
 abbrev μ-loop : tie.MeasureT-loop
-μ-loop begun sums found₀ k₀ found k = length s - i
+μ-loop begun sums found₀ k₀ found k = 100 - k
 
 -- src/lib.rt:83:9
 loop-holds : tie.Need-loop-holds Inv-loop μ-loop
-loop-holds c = search needs
+loop-holds c = (omega arith, search needs, search needs, refl)
 
 -- src/lib.rt:84:31
 array-read-found : tie.Need-array-read-found Inv-loop μ-loop
@@ -37,11 +43,11 @@ loop-less c = search needs
 
 -- src/lib.rt:83:9
 loop-again : tie.Need-loop-again Inv-loop μ-loop
-loop-again c = search needs
+loop-again c = let l = c .before .loop in (omega arith, l .inv .1, l .inv .2, rw (add-one, l .inv .3))
 
 -- src/lib.rt:77:5
 returns : tie.Need-returns Inv-loop μ-loop
-returns c = search needs
+returns c ds t = let l = c .before .loop in let e : l .k ≡ 100 = omega arith in (rw e at (l .inv .3)) ∙ found-is (c .before .before .before .before .args .self) ds t
 
 pub shareless-spec : {M : Type 1} → statement M
 shareless-spec =

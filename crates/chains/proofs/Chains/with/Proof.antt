@@ -1,3 +1,4 @@
+use Rattle.chains.proofs.Laws.{with-more}
 use native.Mathlib.Omega.{arith}
 use borrow.Author.Needs.{needs}
 use Rattle.chains.proofs.Chains.with.Statement.{statement}
@@ -54,7 +55,7 @@ one-requires c κs = search needs
 
 -- src/lib.rt:58:22
 add-self : tie.Need-add-self
-add-self c = search needs
+add-self c = let a = c .before .before .before .before .before .before .before .before in omega (arith, a .pre .2 .es≤ (a .args .k) (a .pre .0))
 
 -- src/lib.rt:58:9
 mul-self : tie.Need-mul-self
@@ -78,7 +79,7 @@ counted-requires c κs = search needs
 
 -- src/lib.rt:61:24
 add-self-2 : tie.Need-add-self-2
-add-self-2 c = search needs
+add-self-2 c = let a = c .before .before .before .before .before .before .before .before .before in omega (arith, a .pre .2 .sums≤ (a .args .k) (a .pre .0))
 
 -- src/lib.rt:61:9
 mul-self-2 : tie.Need-mul-self-2
@@ -90,7 +91,7 @@ element-write-self-5 c = search needs
 
 -- src/lib.rt:48:5
 returns : tie.Need-returns
-returns c = search needs
+returns c ds r t inside p q s n = let a = c .before .before .before .before .before .before .before .before .before in rw (c .counted .ensures .0, c .before .one .ensures .0, c .before .before .pick2 .ensures, c .before .before .before .pick .ensures) (with-more (a .args .t1) (a .args .k) ds r (a .args .spu) (a .args .e) (a .args .aq) (a .args .shares) (record { begun = search needs; es = search needs; own = search needs; paid = search needs; sums = search needs }) (a .pre .0) t inside p q s n)
 
 pub with-spec : {M : Type 1} → statement M
 with-spec =
