@@ -6,16 +6,16 @@ use mathlib.Core.Path.{_≡_, refl, sym, ap, _∙_, subst}
 use mathlib.Core.Bool.{Bool, true, false, not, cond, _&&_, _||_, and-eq-true-iff, and-true, and-false, or-true, or-false, or-assoc, or-comm}
 use mathlib.Core.List.{List, [], _∷_, _++_}
 use lib.Dec.{ltb, eqb}
-use lib.ListN.{length, take}
+use lib.ListN.{length}
 use borrow.Author.Tests.{eqb-true, eqb-false, ne-eqb, lt-ltb}
 use Rattle.format.specs.Ascii.{ascii}
 use Rattle.format.specs.Bytes.{Bytes, sameBytes}
 use Rattle.format.specs.Fields.{areDigits, numberOf}
-use Rattle.format.proofs.Logic.{is-T, sameBytes→eq}
 use Rattle.rules.specs.Records.{isType, isPublisher, only, any}
 use Rattle.rules.specs.Publisher.{sequenceNumber, isE, isAQ}
 use Rattle.rules.specs.Chains.{inChain, chain, anyBelow, anyChain, manyE, joinedByOPU, paidE, aqBehind}
 use Rattle.rules.proofs.Lists.{only-kept, only-left, any-last, count-last}
+use Rattle.rules.proofs.Types.{of-two}
 use Rattle.chains.specs.Tallies.{begunBy}
 
 -- ---- the chain that a record joins, and the others
@@ -46,18 +46,23 @@ same-or-not {P} j k f g = go (eqb j k) refl
 
 -- ---- a property that some chain has
 
--- Where a record more gives its chain the property p just where q holds, it does so for the transaction.
+module _ (p : List Bytes → Bool) (ds : List Bytes) (r : Bytes) where
+  -- a record in none of the chains below n changes nothing there
+  pub below-left : (n : ℕ) → ((j : ℕ) → j < n → inChain j r ≡ false) → anyBelow n p (ds ++ r ∷ []) ≡ anyBelow n p ds
+  below-left zero out = refl
+  below-left (suc n) out = rw (chain-left n ds r (out n (omega arith)), below-left n (λ j h. out j (omega arith)))
+
+-- Where a record more gives its chain the property p just where q holds, some chain has p then just where some had it before or q holds.
 module _ (p : List Bytes → Bool) (k : ℕ) (ds : List Bytes) (r : Bytes) (q : Bool) (inside : inChain k r ≡ true)
     (grown : p (chain k ds ++ r ∷ []) ≡ (p (chain k ds) || q)) where
-  below : (n : ℕ) → n ≤ k → anyBelow n p (ds ++ r ∷ []) ≡ anyBelow n p ds
-  below zero h = refl
-  below (suc n) h = rw (chain-left n ds r (elsewhere n k r inside (λ e. omega arith)), below n (omega arith))
+  below : anyBelow k p (ds ++ r ∷ []) ≡ anyBelow k p ds
+  below = below-left p ds r k (λ j h. elsewhere j k r inside (λ e. omega arith))
 
   through : (n : ℕ) → k < n → anyBelow n p (ds ++ r ∷ []) ≡ (anyBelow n p ds || q)
   through zero h = absurd (omega arith)
   through (suc n) h =
       same-or-not n k
-      (λ e. rw (e, chain-kept k ds r inside, grown, below k (omega arith)) (swapped (p (chain k ds)) q (anyBelow k p ds)))
+      (λ e. rw (e, chain-kept k ds r inside, grown, below) (swapped (p (chain k ds)) q (anyBelow k p ds)))
       (λ d. rw (chain-left n ds r (elsewhere n k r inside d), through n (omega (arith, d))) (sym (or-assoc (p (chain n ds)) (anyBelow n p ds) q)))
     where
       swapped : (a b c : Bool) → ((a || b) || c) ≡ ((a || c) || b)
@@ -80,11 +85,7 @@ many-more c r = rw (count-last isE c r) (more-than-one (isE r) (length (only isE
 
 -- 13
 opu-is : (r : Bytes) → isPublisher r ≡ true → isType "OPU" r ≡ not (isType "SPU" r)
-opu-is r e = go (isType "SPU" r) refl
-  where
-    go : (s : Bool) → isType "SPU" r ≡ s → isType "OPU" r ≡ not s
-    go true q = ap (λ (t : Bytes). sameBytes (ascii "OPU") t) (sym (sameBytes→eq (ascii "SPU") (take 3 r) (is-T (isType "SPU" r) q)))
-    go false q = rw q at e
+opu-is r e = of-two "SPU" "OPU" r (λ t. sameBytes (ascii "OPU") t ≡ not (sameBytes (ascii "SPU") t)) refl refl e
 
 joins : (b a s : Bool) → (b && (a || not s)) ≡ (b && a || (not s && eqb (cond b 1 2) 1))
 joins true a s = rw (and-true (not s))

@@ -1,5 +1,5 @@
--- The tallies: what they are with one record more, that a record in no chain leaves them, that they stay small, and what is read from
--- them. Assumes nothing.
+-- The tallies: what they are at the start and with one record more, that a record in no chain leaves them as they are, that they stay
+-- small, and what is read off them. Assumes nothing.
 use Prim.Native.Nat.{ℕ, zero, suc, _+_, _*_, _^_, _≤_, _<_}
 use native.Mathlib.Omega.{arith}
 use native.Mathlib.Nat.{mul-le-mul-left}
@@ -7,11 +7,11 @@ use mathlib.Core.Path.{_≡_, refl, sym, ap, _∙_, subst}
 use mathlib.Core.Bool.{Bool, true, false, not, cond, _&&_, _||_, and-eq-true-iff, and-true, and-false, and-assoc, or-true, or-false, or-comm}
 use mathlib.Core.List.{List, [], _∷_, _++_}
 use lib.Dec.{ltb, eqb}
-use lib.ListN.{length, getD, set, replicate, getD-replicate}
+use lib.ListN.{length, take, drop, getD, set, replicate, getD-replicate, length-take, length-drop}
 use lib.Seq.{getD-set-same, getD-set-other}
 use borrow.Author.Tests.{eqb-true, eq-eqb, lt-ltb}
 use Rattle.format.specs.Bytes.{Bytes, All, sameBytes}
-use Rattle.format.specs.Fields.{areDigits, numberOf}
+use Rattle.format.specs.Fields.{fieldOf, areDigits, numberOf}
 use Rattle.format.proofs.Logic.{is-true, is-T, sameBytes→eq, sameBytes-refl}
 use Rattle.rules.specs.Records.{isType, isPublisher, only, any}
 use Rattle.rules.specs.Publisher.{sequenceNumber, isE, isAQ, hasShare, sameChain}
@@ -21,21 +21,21 @@ use Rattle.rules.proofs.Lists.{any-last, count-last, sum-only-last, any-only, a
 use Rattle.rules.proofs.Fields.{all-shares-most, two-digits}
 use Rattle.chains.specs.declared.Chains.{Chains}
 use Rattle.chains.specs.Tallies.{begunBy, ownE, TallyOf, Tallied, Small, Whole}
-use Rattle.chains.proofs.Growth.{chain-kept, chain-left, elsewhere, same-or-not, flag-more, many-more, joined-more, behind-more, begun-more}
+use Rattle.chains.proofs.Growth.{chain-kept, chain-left, elsewhere, same-or-not, below-left, flag-more, many-more, joined-more, behind-more, begun-more}
 
 -- ---- one record more
 
 -- the entry of the chain that a record joins is set to what it is of that chain then; the other entries stand
-tally-more : {A : Type 0} (l : List A) (beyond : A) (d : List Bytes → A) (k : ℕ) (ds : List Bytes) (r : Bytes) (v : A)
-    → length l ≡ 100 → k < 100 → inChain k r ≡ true → TallyOf l beyond d ds → v ≡ d (chain k ds ++ r ∷ []) → TallyOf (set l k v) beyond d (ds ++ r ∷ [])
-tally-more l beyond d k ds r v len h inside t e j hj =
+tally-more : {A : Type 0} (l : List A) (beyond : A) (f : List Bytes → A) (k : ℕ) (ds : List Bytes) (r : Bytes) (v : A)
+    → length l ≡ 100 → k < 100 → inChain k r ≡ true → TallyOf l beyond f ds → v ≡ f (chain k ds ++ r ∷ []) → TallyOf (set l k v) beyond f (ds ++ r ∷ [])
+tally-more l beyond f k ds r v len h inside t e j hj =
     same-or-not j k
     (λ q. rw (q, getD-set-same l k v beyond (omega arith), chain-kept k ds r inside) e)
-    (λ n. getD-set-other l k j v beyond n ∙ t j hj ∙ ap d (sym (chain-left j ds r (elsewhere j k r inside n))))
+    (λ n. getD-set-other l k j v beyond n ∙ t j hj ∙ ap f (sym (chain-left j ds r (elsewhere j k r inside n))))
 
-tally-left : {A : Type 0} (l : List A) (beyond : A) (d : List Bytes → A) (ds : List Bytes) (r : Bytes)
-    → ((k : ℕ) → k < 100 → inChain k r ≡ false) → TallyOf l beyond d ds → TallyOf l beyond d (ds ++ r ∷ [])
-tally-left l beyond d ds r out t k h = t k h ∙ ap d (sym (chain-left k ds r (out k h)))
+tally-left : {A : Type 0} (l : List A) (beyond : A) (f : List Bytes → A) (ds : List Bytes) (r : Bytes)
+    → ((k : ℕ) → k < 100 → inChain k r ≡ false) → TallyOf l beyond f ds → TallyOf l beyond f (ds ++ r ∷ [])
+tally-left l beyond f ds r out t k h = t k h ∙ ap f (sym (chain-left k ds r (out k h)))
 
 has-share : (a b c : ℕ) → ltb 0 (a + b + c) ≡ (ltb 0 a || ltb 0 b || ltb 0 c)
 has-share (suc a) b c = rw (lt-ltb 0 (suc a + b + c) (omega arith), lt-ltb 0 (suc a) (omega arith))
@@ -44,6 +44,9 @@ has-share zero zero c = let e : 0 + 0 + c ≡ c = omega arith in rw e
 
 publisher-in : (k : ℕ) (r : Bytes) → inChain k r ≡ true → isPublisher r ≡ true
 publisher-in k r e = and-eq-true-iff _ _ .0 (and-eq-true-iff (isPublisher r && areDigits (sequenceNumber r)) _ .0 e .0) .0
+
+pub in-chain : (k : ℕ) (r : Bytes) → isPublisher r ≡ true → areDigits (sequenceNumber r) ≡ true → numberOf (sequenceNumber r) ≡ k → inChain k r ≡ true
+in-chain k r p d n = rw (p, d) (eq-eqb (numberOf (sequenceNumber r)) k n)
 
 -- every array has its hundred entries
 pub record Hundred (c : Chains) : Type 0 where
@@ -95,8 +98,7 @@ module _ (c : Chains) (whole : Hundred c) (k : ℕ) (h : k < 100) (ds : List Byt
         begun = tally-more (c .begun) 0 begunBy k ds r _ (whole .begun) h inside (t .begun) (rw (t .begun k h) (sym (begun-more before r)));
         es = tally-more (c .es) 0 (λ rs. length (only isE rs)) k ds r _ (whole .es) h inside (t .es) (rw (t .es k h) (sym (count-last isE before r)));
         own = tally-more (c .own) false (any ownE) k ds r _ (whole .own) h inside (t .own) (rw (t .own k h) (sym (any-last ownE before r)));
-        paid =
-            tally-more (c .paid) false (any paidE) k ds r _ (whole .paid) h inside (t .paid) paid-then;
+        paid = tally-more (c .paid) false (any paidE) k ds r _ (whole .paid) h inside (t .paid) paid-then;
         sums =
             tally-more (c .sums) 0 (λ rs. sumOf allShares (only countsSPU rs)) k ds r _ (whole .sums) h inside (t .sums)
             (rw (t .sums k h) (sym (sum-only-last countsSPU allShares before r)));
@@ -112,14 +114,9 @@ with-more c k ds r spu e aq shares whole h t inside p q s n = rw (← p, ← q, 
 
 -- ---- a record in no chain
 
-below-left : (p : List Bytes → Bool) (ds : List Bytes) (r : Bytes) → ((k : ℕ) → k < 100 → inChain k r ≡ false) → (n : ℕ) → n ≤ 100
-    → anyBelow n p (ds ++ r ∷ []) ≡ anyBelow n p ds
-below-left p ds r out zero h = refl
-below-left p ds r out (suc n) h = rw (chain-left n ds r (out n (omega arith)), below-left p ds r out n (omega arith))
-
 module _ (c : Chains) (ds : List Bytes) (r : Bytes) (t : Tallied c ds) where
   flag-left : (p : List Bytes → Bool) (flag : Bool) → ((k : ℕ) → k < 100 → inChain k r ≡ false) → flag ≡ anyChain p ds → flag ≡ anyChain p (ds ++ r ∷ [])
-  flag-left p flag out e = e ∙ sym (below-left p ds r out 100 (omega arith))
+  flag-left p flag out e = e ∙ sym (below-left p ds r 100 out)
 
   pub outside : ((k : ℕ) → k < 100 → inChain k r ≡ false) → Tallied c (ds ++ r ∷ [])
   unfolding is11 is13 is14
@@ -176,6 +173,11 @@ small c ds t h =
 
 -- ---- an SPU of type E in the chain of a record
 
+-- its sequence number ends at position 21
+pub whole-of : (r : Bytes) → 21 ≤ length r → Whole r
+unfolding fieldOf
+whole-of r h = rw (length-take, length-drop) (omega arith)
+
 both-ways : (a b : Bool) → (a ≡ true → b ≡ true) → (b ≡ true → a ≡ true) → a ≡ b
 both-ways true b f g = sym (f refl)
 both-ways false true f g = g refl
@@ -210,6 +212,11 @@ module _ (k : ℕ) (r : Bytes) (hr : Whole r) (inside : inChain k r ≡ true) wh
       t .own k h
       ∙ any-only (inChain k) ownE ds
       ∙ any-same (λ p. inChain k p && ownE p) (λ p. sameChain r p && isType "SPU" p && isE p) ds (all-same ds w)
+
+-- a record in no chain
+pub knows-none : (r : Bytes) (ds : List Bytes) → areDigits (sequenceNumber r) ≡ false → any (λ p. sameChain r p && isType "SPU" p && isE p) ds ≡ false
+knows-none r [] e = refl
+knows-none r (p ∷ ds) e = rw (e, and-false (isPublisher p)) (rw e at (knows-none r ds e))
 
 -- ---- 12, as `Chains::shareless` looks for it
 

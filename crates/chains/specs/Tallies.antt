@@ -11,18 +11,20 @@ use Rattle.rules.specs.Totals.{sumOf}
 use Rattle.rules.specs.Chains.{chain, allShares, countsSPU, paidE, is11, is13, is14}
 use Rattle.chains.specs.declared.Chains.{Chains}
 
--- what a chain's first record is: 0 while it has none, 1 for SPU, 2 for OPU
+-- what a chain's first record is: 1 for SPU, 2 for OPU, 0 while it has none
 abbrev pub begunBy : List Bytes → ℕ
 begunBy [] = 0
 begunBy (r ∷ rs) = cond (isType "SPU" r) 1 2
 
+-- an SPU of type E
 abbrev pub ownE : Bytes → Bool
 ownE r = isType "SPU" r && isE r
 
--- an array's entry for each chain of the details is d of that chain; `none` is what stands beyond the array
+-- an array's entry k is f of chain k, for 00 to 99; `beyond` is what is read behind an array's end, and never is
 abbrev pub TallyOf : {A : Type 0} → List A → A → (List Bytes → A) → List Bytes → Type 0
-TallyOf l none d ds = (k : ℕ) → k < 100 → getD l k none ≡ d (chain k ds)
+TallyOf l beyond f ds = (k : ℕ) → k < 100 → getD l k beyond ≡ f (chain k ds)
 
+-- the tallies and flags are those of the details ds
 pub record Tallied (c : Chains) (ds : List Bytes) : Type 0 where
   pub begun : TallyOf (c .begun) 0 begunBy ds
   pub es : TallyOf (c .es) 0 (λ rs. length (only isE rs)) ds
@@ -33,7 +35,7 @@ pub record Tallied (c : Chains) (ds : List Bytes) : Type 0 where
   pub joined : c .joined ≡ is13 ds
   pub behind : c .behind ≡ is14 ds
 
--- one record more fits the tallies
+-- the tallies have room for one record more
 pub record Small (c : Chains) : Type 0 where
   pub es≤ : (k : ℕ) → k < 100 → getD (c .es) k 0 ≤ 2 ^ 31
   pub sums≤ : (k : ℕ) → k < 100 → getD (c .sums) k 0 ≤ 2 ^ 60

@@ -1,4 +1,5 @@
-// The chains of publishers in a transaction, findings 11 to 14 and 32: one tally for each two-digit sequence number, 00 to 99.
+// The chains of publishers in a transaction, findings 11 to 14 and 32: one tally for each two-digit sequence number, 00 to 99, all empty
+// at the start.
 ghost use mathlib.Core.Path.{_≡_};
 ghost use mathlib.Core.Bool.{true, cond, _&&_, _||_};
 ghost use mathlib.Core.List.{List, [], _∷_, _++_};
@@ -11,7 +12,7 @@ ghost use Rattle.rules.specs.Chains.{inChain, allShares, is12};
 ghost use Rattle.chains.specs.Tallies.{Tallied, Small, Whole};
 
 pub struct Chains {
-    // What a chain's first record is: 0 while it has none, 1 for SPU, 2 for OPU.
+    // What a chain's first record is: 1 for SPU, 2 for OPU, 0 while it has none.
     pub begun: [u8; 100],
     // How many E records it has.
     pub es: [u32; 100],
@@ -21,9 +22,11 @@ pub struct Chains {
     pub paid: [bool; 100],
     // The shares of its SPU records of type E and AQ, all rights together.
     pub sums: [u64; 100],
-    // Findings 11, 13 and 14, of the chains so far.
+    // Finding 11: some chain has more than one E.
     pub many: bool,
+    // Finding 13: an OPU is in a chain begun by SPU.
     pub joined: bool,
+    // Finding 14: an AQ SPU is in a chain where an earlier E has a share.
     pub behind: bool,
 }
 
@@ -44,7 +47,8 @@ impl Chains {
         }
     }
 
-    // Behind one publisher record more, in chain k.
+    // Behind one publisher record more, in chain k: whether it is an SPU, its type in force, and its three shares together. What the record
+    // adds to a finding is read off the tallies before it.
     pub fn with(mut self, k: usize, spu: bool, e: bool, aq: bool, shares: u64) -> Chains
         requires { ⌜ (k < 100) × (shares ≤ 299997) × Small self ⌝ }
         ensures { λ c. ⌜ ((ds : List Bytes) (r : Bytes) → Tallied self ds → inChain k r ≡ true → isType "SPU" r ≡ spu → isE r ≡ e → isAQ r ≡ aq → allShares r ≡ shares → Tallied c (ds ++ r ∷ [])) ⌝ }
@@ -65,15 +69,16 @@ impl Chains {
         self
     }
 
-    // Whether chain k has an SPU of type E.
+    // Whether chain k has an SPU of type E, for finding 32. Only that array is copied.
     pub fn knows_e(self, k: usize) -> bool
         requires { ⌜ k < 100 ⌝ }
         ensures { λ b. ⌜ ((ds : List Bytes) (r : Bytes) → Tallied self ds → All Whole ds → Whole r → inChain k r ≡ true → b ≡ any (λ p. sameChain r p && isType "SPU" p && isE p) ds) ⌝ }
     {
-        self.own[k]
+        let own = self.own;
+        own[k]
     }
 
-    // Whether some chain begun by SPU has no share to count.
+    // Finding 12: in some chain begun by SPU, the SPU records of type E and AQ have no share.
     pub fn shareless(self) -> bool
         ensures { λ b. ⌜ ((ds : List Bytes) → Tallied self ds → b ≡ is12 ds) ⌝ }
     {

@@ -1,12 +1,8 @@
+-- `chains::Chains::empty` meets its contract. Assumes nothing.
 use Rattle.chains.proofs.Laws.{begins}
-use native.Mathlib.Omega.{arith}
-use borrow.Author.Needs.{needs}
 use Rattle.chains.proofs.Chains.empty.Statement.{statement}
 use Rattle.chains.proofs.Chains.empty.Tie as tie
-use Rattle.chains.proofs.Chains.empty.Reads as reads
-use Rattle.chains.proofs.Chains.empty.Lts as lts
 
--- src/lib.rt:32:5
 returns : tie.Need-returns
 returns c = begins
 

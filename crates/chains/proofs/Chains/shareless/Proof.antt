@@ -1,15 +1,14 @@
+-- `chains::Chains::shareless` meets its contract. The loop's invariant: what was found so far was found among the chains below k.
+-- Assumes nothing.
 use Prim.Native.Nat.{_≤_, _-_}
-use mathlib.Core.Path.{_≡_, refl, sym, ap, _∙_}
-use mathlib.Core.Bool.{_||_, _&&_}
 use native.Mathlib.Numerals.{add-one}
-use lib.ListN.{length}
-use Rattle.chains.proofs.Laws.{foundBelow, found-is}
 use native.Mathlib.Omega.{arith}
+use mathlib.Core.Path.{_≡_, refl, _∙_}
+use lib.ListN.{length}
 use borrow.Author.Needs.{needs}
+use Rattle.chains.proofs.Laws.{foundBelow, found-is}
 use Rattle.chains.proofs.Chains.shareless.Statement.{statement}
 use Rattle.chains.proofs.Chains.shareless.Tie as tie
-use Rattle.chains.proofs.Chains.shareless.Reads as reads
-use Rattle.chains.proofs.Chains.shareless.Lts as lts
 
 abbrev Inv-loop : tie.InvT-loop
 Inv-loop begun sums found₀ k₀ found k = (k ≤ 100) × (length begun ≡ 100) × (length sums ≡ 100) × (found ≡ foundBelow begun sums k)
@@ -17,35 +16,27 @@ Inv-loop begun sums found₀ k₀ found k = (k ≤ 100) × (length begun ≡ 100
 abbrev μ-loop : tie.MeasureT-loop
 μ-loop begun sums found₀ k₀ found k = 100 - k
 
--- src/lib.rt:83:9
 loop-holds : tie.Need-loop-holds Inv-loop μ-loop
 loop-holds c = (omega arith, search needs, search needs, refl)
 
--- src/lib.rt:84:31
 array-read-found : tie.Need-array-read-found Inv-loop μ-loop
 array-read-found c = search needs
 
--- src/lib.rt:84:49
 mul-found : tie.Need-mul-found Inv-loop μ-loop
 mul-found c = search needs
 
--- src/lib.rt:84:49
 array-read-found-2 : tie.Need-array-read-found-2 Inv-loop μ-loop
 array-read-found-2 c = search needs
 
--- src/lib.rt:83:13
 add-k : tie.Need-add-k Inv-loop μ-loop
 add-k c = search needs
 
--- src/lib.rt:83:9
 loop-less : tie.Need-loop-less Inv-loop μ-loop
 loop-less c = search needs
 
--- src/lib.rt:83:9
 loop-again : tie.Need-loop-again Inv-loop μ-loop
 loop-again c = let l = c .before .loop in (omega arith, l .inv .1, l .inv .2, rw (add-one, l .inv .3))
 
--- src/lib.rt:77:5
 returns : tie.Need-returns Inv-loop μ-loop
 returns c ds t = let l = c .before .loop in let e : l .k ≡ 100 = omega arith in (rw e at (l .inv .3)) ∙ found-is (c .before .before .before .before .args .self) ds t
 
