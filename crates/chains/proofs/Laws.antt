@@ -1,20 +1,19 @@
 -- The tallies: what they are at the start and with one record more, that a record in no chain leaves them as they are, that they stay
 -- small, and what is read off them. Assumes nothing.
-use Prim.Native.Nat.{ℕ, zero, suc, _+_, _*_, _^_, _≤_, _<_}
+use Prim.Native.Nat.{ℕ, zero, suc, _+_, _≤_, _<_}
 use native.Mathlib.Omega.{arith}
-use native.Mathlib.Nat.{mul-le-mul-left}
-use mathlib.Core.Path.{_≡_, refl, sym, ap, _∙_, subst}
-use mathlib.Core.Bool.{Bool, true, false, not, cond, _&&_, _||_, and-eq-true-iff, and-true, and-false, and-assoc, or-true, or-false, or-comm}
+use mathlib.Core.Path.{_≡_, refl, sym, ap, _∙_}
+use mathlib.Core.Bool.{Bool, true, false, not, cond, _&&_, _||_, and-eq-true-iff, and-true, and-false, and-assoc, or-comm}
 use mathlib.Core.List.{List, [], _∷_, _++_}
 use lib.Dec.{ltb, eqb}
-use lib.ListN.{length, take, drop, getD, set, replicate, getD-replicate, length-take, length-drop}
+use lib.ListN.{length, getD, set, replicate, getD-replicate, length-take, length-drop}
 use lib.Seq.{getD-set-same, getD-set-other}
 use borrow.Author.Tests.{eqb-true, eq-eqb, lt-ltb}
 use Rattle.format.specs.Bytes.{Bytes, All, sameBytes}
 use Rattle.format.specs.Fields.{fieldOf, areDigits, numberOf}
 use Rattle.format.proofs.Logic.{is-true, is-T, sameBytes→eq, sameBytes-refl}
 use Rattle.rules.specs.Records.{isType, isPublisher, only, any}
-use Rattle.rules.specs.Publisher.{sequenceNumber, isE, isAQ, hasShare, sameChain}
+use Rattle.rules.specs.Publisher.{sequenceNumber, isE, isAQ, sameChain}
 use Rattle.rules.specs.Totals.{PR, MR, SR, publisherShare, sumOf}
 use Rattle.rules.specs.Chains.{inChain, chain, anyBelow, anyChain, manyE, joinedByOPU, aqBehind, allShares, countsSPU, paidE, begunBySPU, shareless, is11, is12, is13, is14}
 use Rattle.rules.proofs.Lists.{any-last, count-last, sum-only-last, any-only, any-same, only-fewer, sum-most}

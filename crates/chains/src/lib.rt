@@ -1,10 +1,9 @@
 // The chains of publishers in a transaction, findings 11 to 14 and 32: one tally for each two-digit sequence number, 00 to 99, all empty
 // at the start.
 ghost use mathlib.Core.Path.{_≡_};
-ghost use mathlib.Core.Bool.{true, cond, _&&_, _||_};
+ghost use mathlib.Core.Bool.{true, cond, _&&_};
 ghost use mathlib.Core.List.{List, [], _∷_, _++_};
-ghost use Prim.Native.Nat.{ℕ, _≤_, _<_};
-ghost use lib.Dec.{eqb};
+ghost use Prim.Native.Nat.{_≤_, _<_};
 ghost use Rattle.format.specs.Bytes.{Bytes, All};
 ghost use Rattle.rules.specs.Records.{isType, any};
 ghost use Rattle.rules.specs.Publisher.{isE, isAQ, sameChain};
