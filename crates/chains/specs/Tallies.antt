@@ -20,7 +20,7 @@ begunBy (r ∷ rs) = cond (isType "SPU" r) 1 2
 abbrev pub ownE : Bytes → Bool
 ownE r = isType "SPU" r && isE r
 
--- an array's entry k is f of chain k, for 00 to 99; `beyond` is what is read behind an array's end, and never is
+-- an array's entry k is f of chain k, for 00 to 99; `beyond` stands for an entry behind the array's end, where nothing is read
 abbrev pub TallyOf : {A : Type 0} → List A → A → (List Bytes → A) → List Bytes → Type 0
 TallyOf l beyond f ds = (k : ℕ) → k < 100 → getD l k beyond ≡ f (chain k ds)
 
