@@ -112,9 +112,13 @@ is31 r = isPublisher r && hasShare r && not (isE r || isAQ r)
 abbrev pub sameChain : Bytes → Bytes → Bool
 sameChain r p = isPublisher p && areDigits (sequenceNumber r) && sameBytes (sequenceNumber p) (sequenceNumber r)
 
+-- an E SPU of its chain stands among them
+unfoldable pub earlierE : List Bytes → Bytes → Bool
+earlierE before r = any (λ p. sameChain r p && isType "SPU" p && isE p) before
+
 -- P32, TR: AQ SPU with no earlier E SPU in its chain, or in no chain
 unfoldable pub is32 : List Bytes → Bytes → Bool
-is32 before r = isType "SPU" r && isAQ r && not (any (λ p. sameChain r p && isType "SPU" p && isE p) before)
+is32 before r = isType "SPU" r && isAQ r && not (earlierE before r)
 
 -- P8, FR, N: OPU indicator not blank, Y or N
 unfoldable pub is33 : Bytes → Bool

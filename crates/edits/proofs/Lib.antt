@@ -1,0 +1,7 @@
+-- The laws that the proofs cite; Own and Types serve whoever calls these functions, too.
+pub mod Levels
+pub mod Types
+pub mod Own
+pub mod Places
+pub mod Before
+pub mod Fields

@@ -1,0 +1,19 @@
+-- `edits::other::found46` meets its contract.
+-- Assumes nothing.
+use Rattle.rules.specs.Other.{is46}
+use borrow.Author.Needs.{needs}
+use Rattle.edits.proofs.other.found46.Statement.{statement}
+use Rattle.edits.proofs.other.found46.Tie as tie
+
+field-requires : tie.Need-field-requires
+field-requires c κs = search needs
+
+duration-requires : tie.Need-duration-requires
+duration-requires c κs = search needs
+
+returns : tie.Need-returns
+unfolding is46
+returns c = rw (c .before .before .before .pre .1) (cc)
+
+pub found46-spec : {M : Type 1} → statement M
+found46-spec = tie.close (tie.spec field-requires duration-requires returns)

@@ -1,0 +1,30 @@
+-- `edits::other::recording` meets its contract: each finding by its function, and the others do not hold of this kind of record.
+-- Assumes nothing.
+use Rattle.edits.proofs.Own.{own-recording}
+use borrow.Author.Needs.{needs}
+use Rattle.edits.proofs.other.recording.Statement.{statement}
+use Rattle.edits.proofs.other.recording.Tie as tie
+
+found45-requires : tie.Need-found45-requires
+found45-requires c κs = search needs
+
+found46-requires : tie.Need-found46-requires
+found46-requires c κs = search needs
+
+found44-requires : tie.Need-found44-requires
+found44-requires c κs = search needs
+
+gather-requires : tie.Need-gather-requires
+gather-requires c κs = search needs
+
+returns : tie.Need-returns
+returns c =
+    let s = c .before .before .before .before .before in
+    let r = s .args .record .now in
+    λ t before.
+    let own = own-recording t before r (s .pre .1) in
+    record { set = rw (own, ← c .before .found44 .ensures, ← c .before .before .before .found45 .ensures, ← c .before .before .found46 .ensures) (c .gather .ensures .0); level = rw (own, ← c .before .found44 .ensures, ← c .before .before .before .found45 .ensures, ← c .before .before .found46 .ensures) (c .gather .ensures .1) }
+
+pub recording-spec : {M : Type 1} → statement M
+recording-spec =
+    tie.close (tie.spec found45-requires found46-requires found44-requires gather-requires returns)

@@ -1,0 +1,30 @@
+-- `edits::other::version` meets its contract.
+-- Assumes nothing.
+use mathlib.Core.Path.{sym, ap, _∙_}
+use Rattle.format.specs.Fields.{isBlank}
+use Rattle.edits.proofs.Fields.{version-43}
+use Rattle.edits.proofs.Own.{own-version}
+use borrow.Author.Needs.{needs}
+use Rattle.edits.proofs.other.version.Statement.{statement}
+use Rattle.edits.proofs.other.version.Tie as tie
+
+field-requires : tie.Need-field-requires
+field-requires c κs = search needs
+
+blank-requires : tie.Need-blank-requires
+blank-requires c κs = search needs
+
+nameless-requires : tie.Need-nameless-requires
+nameless-requires c κs = search needs
+
+returns : tie.Need-returns
+returns c =
+    let s = c .before .before .before .before in
+    let r = s .args .record .now in
+    let e = c .before .blank .ensures ∙ ap isBlank (c .before .before .field .ensures .0) ∙ version-43 r (s .pre .1) in
+    λ t before.
+    let own = own-version t before r (s .pre .1) in
+    record { set = rw (own, ← e) (c .nameless .ensures .0); level = rw (own, ← e) (c .nameless .ensures .1) }
+
+pub version-spec : {M : Type 1} → statement M
+version-spec = tie.close (tie.spec field-requires blank-requires nameless-requires returns)

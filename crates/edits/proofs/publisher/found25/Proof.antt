@@ -1,0 +1,42 @@
+-- `edits::publisher::found25` meets its contract.
+-- Assumes nothing.
+use mathlib.Core.Path.{sym, ap, _∙_}
+use Rattle.format.specs.Ascii.{ascii}
+use Rattle.format.specs.Bytes.{sameBytes}
+use Rattle.edits.proofs.Before.{found-25, zero-one}
+use borrow.Author.Needs.{needs}
+use Rattle.edits.proofs.publisher.found25.Statement.{statement}
+use Rattle.edits.proofs.publisher.found25.Tie as tie
+
+field-requires : tie.Need-field-requires
+field-requires c κs = search needs
+
+shared-slice-read-first : tie.Need-shared-slice-read-first
+shared-slice-read-first c = search needs
+
+shared-slice-read-first-2 : tie.Need-shared-slice-read-first-2
+shared-slice-read-first-2 c = search needs
+
+sequence-requires : tie.Need-sequence-requires
+sequence-requires c κs = search needs
+
+add-result : tie.Need-add-result
+add-result c = search needs
+
+returns : tie.Need-returns
+returns c =
+    let s = c .before .before .before .before .before in
+    let r = s .args .record .now in
+    let f = c .before .before .before .field in
+    λ before e. found-25 r (s .pre .0 .1) before (s .args .last) (c .sequence .result) _ e (c .sequence .ensures .0) (zero-one (f .result .now) (f .ensures .1) ∙ ap (sameBytes (ascii "01")) (f .ensures .0))
+
+pub found25-spec : {M : Type 1} → statement M
+found25-spec =
+    tie.close
+    (tie.spec
+    field-requires
+    shared-slice-read-first
+    shared-slice-read-first-2
+    sequence-requires
+    add-result
+    returns)

@@ -1,0 +1,20 @@
+-- `edits::publisher::found32` meets its contract.
+-- Assumes nothing.
+use Rattle.rules.specs.Publisher.{is32}
+use Rattle.edits.proofs.Places.{type-AQ}
+use borrow.Author.Needs.{needs}
+use Rattle.edits.proofs.publisher.found32.Statement.{statement}
+use Rattle.edits.proofs.publisher.found32.Tie as tie
+
+is-spu-requires : tie.Need-is-spu-requires
+is-spu-requires c κs = search needs
+
+returns : tie.Need-returns
+unfolding is32
+returns c =
+    let s = c .before .before in
+    let r = s .args .record .now in
+    λ before e. cc (type-AQ r)
+
+pub found32-spec : {M : Type 1} → statement M
+found32-spec = tie.close (tie.spec is-spu-requires returns)

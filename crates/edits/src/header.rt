@@ -1,0 +1,146 @@
+// NWR and REV.
+ghost use mathlib.Core.Path.{_≡_};
+ghost use mathlib.Core.Bool.{Bool, false};
+ghost use mathlib.Core.List.{List, [], _∷_, _++_};
+ghost use lib.ListN.{length, replicate};
+ghost use Rattle.format.specs.Bytes.{Bytes};
+ghost use Rattle.rules.specs.Tables.{Tables};
+ghost use Rattle.rules.specs.Header.{isSerious, is16, is17, is18, is19, is20, is21, is22, is23};
+ghost use Rattle.rules.specs.Findings.{setOf, worst};
+ghost use Rattle.lookup.specs.Index.{Indexed};
+ghost use Rattle.edits.specs.Kinds.{Header};
+ghost use Rattle.edits.specs.Judged.{Judged};
+use super::Found;
+
+// Title blank.
+fn found16(record: &[u8]) -> bool
+    requires { ⌜ Header (now «record») ⌝ }
+    ensures { λ r. ⌜ r ≡ is16 (now («record» .entry)) ⌝ }
+{
+    text::blank(text::field(record, 20, 60))
+}
+
+// Language entered and not in the table.
+fn found17(record: &[u8], languages: &[u8], slots: &[u16]) -> bool
+    requires { ⌜ Header (now «record») ⌝ }
+    requires { ⌜ Indexed 2 (now languages) (now slots) ⌝ }
+    ensures { λ r. ⌜ ((t : Tables) → t .languages ≡ now (languages .entry) → r ≡ is17 t (now («record» .entry))) ⌝ }
+{
+    let code = text::field(record, 80, 2);
+    if text::blank(code) {
+        return false;
+    }
+    !lookup::has(languages, slots, code)
+}
+
+// Work number blank.
+fn found18(record: &[u8]) -> bool
+    requires { ⌜ Header (now «record») ⌝ }
+    ensures { λ r. ⌜ r ≡ is18 (now («record» .entry)) ⌝ }
+{
+    text::blank(text::field(record, 82, 14))
+}
+
+// ISWC entered and invalid.
+fn found19(record: &[u8]) -> bool
+    requires { ⌜ Header (now «record») ⌝ }
+    ensures { λ r. ⌜ r ≡ is19 (now («record» .entry)) ⌝ }
+{
+    let code = text::field(record, 96, 11);
+    !text::blank(code) & !fields::iswc(code)
+}
+
+// Copyright date not zeros and invalid.
+fn found20(record: &[u8]) -> bool
+    requires { ⌜ Header (now «record») ⌝ }
+    ensures { λ r. ⌜ r ≡ is20 (now («record» .entry)) ⌝ }
+{
+    let date = text::field(record, 107, 8);
+    !fields::zeros(date) & !fields::date(date)
+}
+
+// Category not in the table; a blank one never is.
+fn found21(record: &[u8], categories: &[u8], slots: &[u16]) -> bool
+    requires { ⌜ Header (now «record») ⌝ }
+    requires { ⌜ Indexed 3 (now categories) (now slots) ⌝ }
+    ensures { λ r. ⌜ ((t : Tables) → t .categories ≡ now (categories .entry) → r ≡ is21 t (now («record» .entry))) ⌝ }
+{
+    let code = text::field(record, 127, 3);
+    text::blank(code) | !lookup::has(categories, slots, code)
+}
+
+// Whether the category is SER.
+fn serious(record: &[u8]) -> bool
+    requires { ⌜ Header (now «record») ⌝ }
+    ensures { λ r. ⌜ r ≡ isSerious (now («record» .entry)) ⌝ }
+{
+    let code = text::field(record, 127, 3);
+    (b'S' == code[0]) & ((b'E' == code[1]) & (b'R' == code[2]))
+}
+
+// Category SER, and duration zero or invalid.
+fn found22(record: &[u8]) -> bool
+    requires { ⌜ Header (now «record») ⌝ }
+    ensures { λ r. ⌜ r ≡ is22 (now («record» .entry)) ⌝ }
+{
+    let duration = text::field(record, 130, 6);
+    serious(record) & (fields::zeros(duration) | !fields::duration(duration))
+}
+
+// Another category, and duration invalid.
+fn found23(record: &[u8]) -> bool
+    requires { ⌜ Header (now «record») ⌝ }
+    ensures { λ r. ⌜ r ≡ is23 (now («record» .entry)) ⌝ }
+{
+    !serious(record) & !fields::duration(text::field(record, 130, 6))
+}
+
+fn gather(
+    b16: bool,
+    b17: bool,
+    b18: bool,
+    b19: bool,
+    b20: bool,
+    b21: bool,
+    b22: bool,
+    b23: bool,
+) -> Found
+    ensures { λ r. ⌜ r .set ≡ setOf (replicate 16 false ++ b16 ∷ b17 ∷ b18 ∷ b19 ∷ b20 ∷ b21 ∷ b22 ∷ b23 ∷ replicate 23 false) ⌝ }
+    ensures { λ r. ⌜ r .level ≡ worst (replicate 16 false ++ b16 ∷ b17 ∷ b18 ∷ b19 ∷ b20 ∷ b21 ∷ b22 ∷ b23 ∷ replicate 23 false) ⌝ }
+{
+    let set = sets::weigh(b16, 0x10000)
+        + sets::weigh(b17, 0x20000)
+        + sets::weigh(b18, 0x40000)
+        + sets::weigh(b19, 0x80000)
+        + sets::weigh(b20, 0x100000)
+        + sets::weigh(b21, 0x200000)
+        + sets::weigh(b22, 0x400000)
+        + sets::weigh(b23, 0x800000);
+    let level = super::worst(b16 | (b17 | (b18 | (b21 | b22))), false, b19 | (b20 | b23));
+    Found { set, level }
+}
+
+// The tables are asked by the indexes made of them.
+pub fn judge(
+    record: &[u8],
+    languages: &[u8],
+    language_slots: &[u16],
+    categories: &[u8],
+    category_slots: &[u16],
+) -> Found
+    requires { ⌜ Header (now «record») ⌝ }
+    requires { ⌜ Indexed 2 (now languages) (now «language_slots») ⌝ }
+    requires { ⌜ Indexed 3 (now categories) (now «category_slots») ⌝ }
+    ensures { λ r. ⌜ ((t : Tables) → t .languages ≡ now (languages .entry) → t .categories ≡ now (categories .entry) → (before : List Bytes) → Judged t before (now («record» .entry)) r) ⌝ }
+{
+    gather(
+        found16(record),
+        found17(record, languages, language_slots),
+        found18(record),
+        found19(record),
+        found20(record),
+        found21(record, categories, category_slots),
+        found22(record),
+        found23(record),
+    )
+}

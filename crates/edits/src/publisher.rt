@@ -1,0 +1,349 @@
+// SPU and OPU.
+ghost use mathlib.Core.Path.{_≡_};
+ghost use mathlib.Core.Bool.{false, not, _&&_};
+ghost use mathlib.Core.List.{List, [], _∷_, _++_};
+ghost use Prim.Native.Nat.{_≤_};
+ghost use lib.ListN.{length, replicate};
+ghost use lib.Dec.{leb, ltb};
+ghost use Rattle.format.specs.Bytes.{Bytes, sameBytes};
+ghost use Rattle.rules.specs.Tables.{Tables, publisherTypes};
+ghost use Rattle.rules.specs.Records.{isType};
+ghost use Rattle.rules.specs.Publisher.{publisherType, typeInForce, indicatorInForce, hasShare, strange, earlierE, is25, is26, is27, is28, is29, is30, is31, is32, is33, is34, is35, is36, is37};
+ghost use Rattle.rules.specs.Findings.{setOf, worst};
+ghost use Rattle.lookup.specs.Index.{Indexed};
+ghost use Rattle.edits.specs.Kinds.{Publisher};
+ghost use Rattle.edits.specs.Places.{placeOf};
+ghost use Rattle.edits.specs.Before.{sequenceOf, lastSequence};
+ghost use Rattle.edits.specs.Judged.{Judged};
+use super::Found;
+use super::pick;
+use fields::Share;
+use fields::ShareField;
+
+// Whether it is an SPU; else it is an OPU.
+fn is_spu(record: &[u8]) -> bool
+    requires { ⌜ Publisher (now «record») ⌝ }
+    ensures { λ r. ⌜ r ≡ isType "SPU" (now («record» .entry)) ⌝ }
+    ensures { λ r. ⌜ not r ≡ isType "OPU" (now («record» .entry)) ⌝ }
+{
+    b'S' == record[0]
+}
+
+// ---- the sequence number
+
+// The sequence number; 100 where it isn't two digits.
+pub fn sequence(record: &[u8]) -> u64
+    requires { ⌜ Publisher (now «record») ⌝ }
+    ensures { λ r. ⌜ r ≡ sequenceOf (now («record» .entry)) ⌝ }
+    ensures { λ r. ⌜ r ≤ 100 ⌝ }
+{
+    let number = text::field(record, 20, 2);
+    if text::digits(number) {
+        text::number(number)
+    } else {
+        100
+    }
+}
+
+// The number does not follow that of the publisher record before, which is 100 where that has none, and 101 where there is no such
+// record: then 01 must stand here.
+fn found25(record: &[u8], last: u64) -> bool
+    requires { ⌜ Publisher (now «record») ⌝ }
+    requires { ⌜ last ≤ 101 ⌝ }
+    ensures { λ r. ⌜ ((before : List Bytes) → last ≡ lastSequence before → r ≡ is25 before (now («record» .entry))) ⌝ }
+{
+    let number = text::field(record, 20, 2);
+    let first = (b'0' == number[0]) & (b'1' == number[1]);
+    let here = sequence(record);
+    !(((last == 101) & first)
+        | ((last < 100) & ((here < 100) & ((here == last) | (here == last + 1)))))
+}
+
+// ---- the type, looked up once
+
+// Its place in the table of publisher types: 0 for E, 1 for AQ, 6 where it isn't there.
+fn type_place(record: &[u8]) -> u8
+    requires { ⌜ Publisher (now «record») ⌝ }
+    ensures { λ r. ⌜ r ≡ placeOf (publisherType (now («record» .entry))) publisherTypes ⌝ }
+{
+    let code = text::field(record, 77, 2);
+    let a = code[0];
+    let b = code[1];
+    pick(
+        (b'E' == a) & (b' ' == b),
+        0,
+        pick(
+            (b'A' == a) & (b'Q' == b),
+            1,
+            pick(
+                (b'A' == a) & (b'M' == b),
+                2,
+                pick(
+                    (b'P' == a) & (b'A' == b),
+                    3,
+                    pick(
+                        (b'S' == a) & (b'E' == b),
+                        4,
+                        pick((b'E' == a) & (b'S' == b), 5, 6),
+                    ),
+                ),
+            ),
+        ),
+    )
+}
+
+// The same with the default of 35 in force, from the place as it stands: 0 for E, 1 for AQ.
+fn in_force(record: &[u8], place: u8) -> u8
+    requires { ⌜ Publisher (now «record») ⌝ }
+    requires { ⌜ place ≡ placeOf (publisherType (now «record»)) publisherTypes ⌝ }
+    ensures { λ r. ⌜ r ≡ placeOf (typeInForce (now («record» .entry))) publisherTypes ⌝ }
+{
+    pick(!is_spu(record) & (place == 6), 0, place)
+}
+
+pub fn type_in_force(record: &[u8]) -> u8
+    requires { ⌜ Publisher (now «record») ⌝ }
+    ensures { λ r. ⌜ r ≡ placeOf (typeInForce (now («record» .entry))) publisherTypes ⌝ }
+{
+    in_force(record, type_place(record))
+}
+
+// ---- the indicator
+
+fn is_byte(field: &[u8], b: u8) -> bool
+    requires { ⌜ length (now field) ≡ 1 ⌝ }
+    ensures { λ r. ⌜ r ≡ sameBytes (b ∷ []) (now (field .entry)) ⌝ }
+{
+    b == field[0]
+}
+
+// OPU indicator not blank, Y or N.
+fn found33(record: &[u8]) -> bool
+    requires { ⌜ Publisher (now «record») ⌝ }
+    ensures { λ r. ⌜ r ≡ is33 (now («record» .entry)) ⌝ }
+{
+    let indicator = text::field(record, 76, 1);
+    !is_spu(record)
+        & !(text::blank(indicator) | is_byte(indicator, b'Y') | is_byte(indicator, b'N'))
+}
+
+// OPU indicator Y with a name.
+fn found34(record: &[u8]) -> bool
+    requires { ⌜ Publisher (now «record») ⌝ }
+    ensures { λ r. ⌜ r ≡ is34 (now («record» .entry)) ⌝ }
+{
+    !is_spu(record)
+        & is_byte(text::field(record, 76, 1), b'Y')
+        & !text::blank(text::field(record, 31, 45))
+}
+
+const DEFAULT_33: u8 = b'N';
+
+const DEFAULT_34: u8 = b'N';
+
+// The indicator with those defaults in force.
+pub fn indicator(record: &[u8]) -> u8
+    requires { ⌜ Publisher (now «record») ⌝ }
+    ensures { λ r. ⌜ r ∷ [] ≡ indicatorInForce (now («record» .entry)) ⌝ }
+{
+    pick(
+        found33(record),
+        DEFAULT_33,
+        pick(found34(record), DEFAULT_34, record[75]),
+    )
+}
+
+// ---- the shares, each read once
+
+// Whether one is bad, and whether one is above 0.
+struct Shares {
+    bad: bool,
+    some: bool,
+}
+
+fn bad(share: ShareField, most: u64) -> bool
+    ensures { λ r. ⌜ r ≡ not (share .digits && leb (share .number) most) ⌝ }
+{
+    !(share.digits & (share.number <= most))
+}
+
+fn some(share: ShareField) -> bool
+    ensures { λ r. ⌜ r ≡ (share .digits && ltb 0 (share .number)) ⌝ }
+{
+    share.digits & (0 < share.number)
+}
+
+fn read_shares(record: &[u8]) -> Shares
+    requires { ⌜ Publisher (now «record») ⌝ }
+    ensures { λ r. ⌜ (r .bad ≡ is30 (now («record» .entry))) × (r .some ≡ hasShare (now («record» .entry))) ⌝ }
+{
+    let pr = ShareField::read(text::field(record, 116, 5));
+    let mr = ShareField::read(text::field(record, 124, 5));
+    let sr = ShareField::read(text::field(record, 132, 5));
+    Shares {
+        bad: bad(pr, Share::HALF) | bad(mr, Share::FULL) | bad(sr, Share::FULL),
+        some: some(pr) | some(mr) | some(sr),
+    }
+}
+
+// ---- the other findings
+
+// SPU party number blank.
+fn found26(record: &[u8]) -> bool
+    requires { ⌜ Publisher (now «record») ⌝ }
+    ensures { λ r. ⌜ r ≡ is26 (now («record» .entry)) ⌝ }
+{
+    is_spu(record) & text::blank(text::field(record, 22, 9))
+}
+
+// Name blank where SPU, or OPU whose indicator isn't Y.
+fn found27(record: &[u8]) -> bool
+    requires { ⌜ Publisher (now «record») ⌝ }
+    ensures { λ r. ⌜ r ≡ is27 (now («record» .entry)) ⌝ }
+{
+    let spu = is_spu(record);
+    (spu | (!spu & !is_byte(text::field(record, 76, 1), b'Y')))
+        & text::blank(text::field(record, 31, 45))
+}
+
+// SPU type not in the table.
+fn found28(record: &[u8], place: u8) -> bool
+    requires { ⌜ Publisher (now «record») ⌝ }
+    requires { ⌜ place ≡ placeOf (publisherType (now «record»)) publisherTypes ⌝ }
+    ensures { λ r. ⌜ r ≡ is28 (now («record» .entry)) ⌝ }
+{
+    is_spu(record) & (place == 6)
+}
+
+// SPU indicator not blank.
+fn found29(record: &[u8]) -> bool
+    requires { ⌜ Publisher (now «record») ⌝ }
+    ensures { λ r. ⌜ r ≡ is29 (now («record» .entry)) ⌝ }
+{
+    is_spu(record) & !text::blank(text::field(record, 76, 1))
+}
+
+// A share above 0, and type neither E nor AQ.
+fn found31(record: &[u8], force: u8, some: bool) -> bool
+    requires { ⌜ Publisher (now «record») ⌝ }
+    requires { ⌜ force ≡ placeOf (typeInForce (now «record»)) publisherTypes ⌝ }
+    requires { ⌜ some ≡ hasShare (now «record») ⌝ }
+    ensures { λ r. ⌜ r ≡ is31 (now («record» .entry)) ⌝ }
+{
+    some & !((force == 0) | (force == 1))
+}
+
+// AQ SPU with no earlier E SPU in its chain.
+fn found32(record: &[u8], force: u8, known: bool) -> bool
+    requires { ⌜ Publisher (now «record») ⌝ }
+    requires { ⌜ force ≡ placeOf (typeInForce (now «record»)) publisherTypes ⌝ }
+    ensures { λ r. ⌜ ((before : List Bytes) → known ≡ earlierE before (now («record» .entry)) → r ≡ is32 before (now («record» .entry))) ⌝ }
+{
+    is_spu(record) & (force == 1) & !known
+}
+
+// OPU type not in the table.
+fn found35(record: &[u8], place: u8) -> bool
+    requires { ⌜ Publisher (now «record») ⌝ }
+    requires { ⌜ place ≡ placeOf (publisherType (now «record»)) publisherTypes ⌝ }
+    ensures { λ r. ⌜ r ≡ is35 (now («record» .entry)) ⌝ }
+{
+    !is_spu(record) & (place == 6)
+}
+
+// A society code entered and not in the table.
+fn unknown(code: &[u8], societies: &[u8], slots: &[u16]) -> bool
+    requires { ⌜ length (now code) ≡ 3 ⌝ }
+    requires { ⌜ Indexed 3 (now societies) (now slots) ⌝ }
+    ensures { λ r. ⌜ ((t : Tables) → t .societies ≡ now (societies .entry) → r ≡ strange t (now (code .entry))) ⌝ }
+{
+    if text::blank(code) {
+        return false;
+    }
+    !lookup::has(societies, slots, code)
+}
+
+fn found36(record: &[u8], societies: &[u8], slots: &[u16]) -> bool
+    requires { ⌜ Publisher (now «record») ⌝ }
+    requires { ⌜ Indexed 3 (now societies) (now slots) ⌝ }
+    ensures { λ r. ⌜ ((t : Tables) → t .societies ≡ now (societies .entry) → r ≡ is36 t (now («record» .entry))) ⌝ }
+{
+    unknown(text::field(record, 113, 3), societies, slots)
+        | unknown(text::field(record, 121, 3), societies, slots)
+        | unknown(text::field(record, 129, 3), societies, slots)
+}
+
+// Tax number entered, not digits.
+fn found37(record: &[u8]) -> bool
+    requires { ⌜ Publisher (now «record») ⌝ }
+    ensures { λ r. ⌜ r ≡ is37 (now («record» .entry)) ⌝ }
+{
+    let number = text::field(record, 79, 9);
+    !text::blank(number) & !text::digits(number)
+}
+
+// ---- together
+
+fn gather(
+    b25: bool,
+    b26: bool,
+    b27: bool,
+    b28: bool,
+    b29: bool,
+    b30: bool,
+    b31: bool,
+    b32: bool,
+    b33: bool,
+    b34: bool,
+    b35: bool,
+    b36: bool,
+    b37: bool,
+) -> Found
+    ensures { λ r. ⌜ r .set ≡ setOf (replicate 25 false ++ b25 ∷ b26 ∷ b27 ∷ b28 ∷ b29 ∷ b30 ∷ b31 ∷ b32 ∷ b33 ∷ b34 ∷ b35 ∷ b36 ∷ b37 ∷ replicate 9 false) ⌝ }
+    ensures { λ r. ⌜ r .level ≡ worst (replicate 25 false ++ b25 ∷ b26 ∷ b27 ∷ b28 ∷ b29 ∷ b30 ∷ b31 ∷ b32 ∷ b33 ∷ b34 ∷ b35 ∷ b36 ∷ b37 ∷ replicate 9 false) ⌝ }
+{
+    let set = sets::weigh(b25, 0x2000000)
+        + sets::weigh(b26, 0x4000000)
+        + sets::weigh(b27, 0x8000000)
+        + sets::weigh(b28, 0x10000000)
+        + sets::weigh(b29, 0x20000000)
+        + sets::weigh(b30, 0x40000000)
+        + sets::weigh(b31, 0x80000000)
+        + sets::weigh(b32, 0x100000000)
+        + sets::weigh(b33, 0x200000000)
+        + sets::weigh(b34, 0x400000000)
+        + sets::weigh(b35, 0x800000000)
+        + sets::weigh(b36, 0x1000000000)
+        + sets::weigh(b37, 0x2000000000);
+    let tr = b25 | (b26 | (b27 | (b28 | (b29 | (b30 | (b31 | b32))))));
+    let fr = b33 | (b34 | (b35 | (b36 | b37)));
+    let level = super::worst(tr, false, fr);
+    Found { set, level }
+}
+
+// last is the sequence number of the publisher record before, and known says that an E SPU of the chain stands before.
+pub fn judge(record: &[u8], societies: &[u8], slots: &[u16], last: u64, known: bool) -> Found
+    requires { ⌜ Publisher (now «record») ⌝ }
+    requires { ⌜ Indexed 3 (now societies) (now slots) ⌝ }
+    requires { ⌜ last ≤ 101 ⌝ }
+    ensures { λ r. ⌜ ((t : Tables) → t .societies ≡ now (societies .entry) → (before : List Bytes) → last ≡ lastSequence before → known ≡ earlierE before (now («record» .entry)) → Judged t before (now («record» .entry)) r) ⌝ }
+{
+    let place = type_place(record);
+    let force = in_force(record, place);
+    let held = read_shares(record);
+    gather(
+        found25(record, last),
+        found26(record),
+        found27(record),
+        found28(record, place),
+        found29(record),
+        held.bad,
+        found31(record, force, held.some),
+        found32(record, force, known),
+        found33(record),
+        found34(record),
+        found35(record, place),
+        found36(record, societies, slots),
+        found37(record),
+    )
+}

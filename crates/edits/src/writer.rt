@@ -1,0 +1,141 @@
+// SWR and OWR.
+ghost use mathlib.Core.Path.{_≡_};
+ghost use mathlib.Core.Bool.{false, not};
+ghost use mathlib.Core.List.{List, [], _∷_, _++_};
+ghost use lib.ListN.{length, replicate};
+ghost use Rattle.format.specs.Bytes.{Bytes};
+ghost use Rattle.rules.specs.Tables.{Tables, designations};
+ghost use Rattle.rules.specs.Records.{isType};
+ghost use Rattle.rules.specs.Writer.{designation, designationInForce, is38, is39, is40, is41, is42};
+ghost use Rattle.rules.specs.Findings.{setOf, worst};
+ghost use Rattle.edits.specs.Kinds.{Writer};
+ghost use Rattle.edits.specs.Places.{placeOf};
+ghost use Rattle.edits.specs.Judged.{Judged};
+use super::Found;
+use super::pick;
+use fields::Share;
+
+// Whether it is an SWR; else it is an OWR.
+fn is_swr(record: &[u8]) -> bool
+    requires { ⌜ Writer (now «record») ⌝ }
+    ensures { λ r. ⌜ r ≡ isType "SWR" (now («record» .entry)) ⌝ }
+    ensures { λ r. ⌜ not r ≡ isType "OWR" (now («record» .entry)) ⌝ }
+{
+    b'S' == record[0]
+}
+
+// The place of its designation in the table: 0 CA, 1 A, 2 C, 3 AR, 4 AD, 5 SR, 6 SA, 7 TR, 8 PA, 9 where it isn't there. The default
+// of 40 changes no place: it is spaces, which are not there either.
+pub fn designation_in_force(record: &[u8]) -> u8
+    requires { ⌜ Writer (now «record») ⌝ }
+    ensures { λ r. ⌜ r ≡ placeOf (designation (now («record» .entry))) designations ⌝ }
+    ensures { λ r. ⌜ r ≡ placeOf (designationInForce (now («record» .entry))) designations ⌝ }
+{
+    let code = text::field(record, 105, 2);
+    let a = code[0];
+    let b = code[1];
+    pick(
+        (b'C' == a) & (b'A' == b),
+        0,
+        pick(
+            (b'A' == a) & (b' ' == b),
+            1,
+            pick(
+                (b'C' == a) & (b' ' == b),
+                2,
+                pick(
+                    (b'A' == a) & (b'R' == b),
+                    3,
+                    pick(
+                        (b'A' == a) & (b'D' == b),
+                        4,
+                        pick(
+                            (b'S' == a) & (b'R' == b),
+                            5,
+                            pick(
+                                (b'S' == a) & (b'A' == b),
+                                6,
+                                pick(
+                                    (b'T' == a) & (b'R' == b),
+                                    7,
+                                    pick((b'P' == a) & (b'A' == b), 8, 9),
+                                ),
+                            ),
+                        ),
+                    ),
+                ),
+            ),
+        ),
+    )
+}
+
+// SWR last name blank.
+fn found38(record: &[u8]) -> bool
+    requires { ⌜ Writer (now «record») ⌝ }
+    ensures { λ r. ⌜ r ≡ is38 (now («record» .entry)) ⌝ }
+{
+    is_swr(record) & text::blank(text::field(record, 29, 45))
+}
+
+// SWR designation not in the table.
+fn found39(record: &[u8], place: u8) -> bool
+    requires { ⌜ Writer (now «record») ⌝ }
+    requires { ⌜ place ≡ placeOf (designation (now «record»)) designations ⌝ }
+    ensures { λ r. ⌜ r ≡ is39 (now («record» .entry)) ⌝ }
+{
+    is_swr(record) & (place == 9)
+}
+
+// OWR designation entered, not in the table.
+fn found40(record: &[u8], place: u8) -> bool
+    requires { ⌜ Writer (now «record») ⌝ }
+    requires { ⌜ place ≡ placeOf (designation (now «record»)) designations ⌝ }
+    ensures { λ r. ⌜ r ≡ is40 (now («record» .entry)) ⌝ }
+{
+    !is_swr(record) & !text::blank(text::field(record, 105, 2)) & (place == 9)
+}
+
+// A share that isn't five digits, or is over 10000.
+fn found41(record: &[u8]) -> bool
+    requires { ⌜ Writer (now «record») ⌝ }
+    ensures { λ r. ⌜ r ≡ is41 (now («record» .entry)) ⌝ }
+{
+    Share::bad(text::field(record, 130, 5), Share::FULL)
+        | Share::bad(text::field(record, 138, 5), Share::FULL)
+        | Share::bad(text::field(record, 146, 5), Share::FULL)
+}
+
+// SWR party number blank.
+fn found42(record: &[u8]) -> bool
+    requires { ⌜ Writer (now «record») ⌝ }
+    ensures { λ r. ⌜ r ≡ is42 (now («record» .entry)) ⌝ }
+{
+    is_swr(record) & text::blank(text::field(record, 20, 9))
+}
+
+fn gather(b38: bool, b39: bool, b40: bool, b41: bool, b42: bool) -> Found
+    ensures { λ r. ⌜ r .set ≡ setOf (replicate 38 false ++ b38 ∷ b39 ∷ b40 ∷ b41 ∷ b42 ∷ replicate 4 false) ⌝ }
+    ensures { λ r. ⌜ r .level ≡ worst (replicate 38 false ++ b38 ∷ b39 ∷ b40 ∷ b41 ∷ b42 ∷ replicate 4 false) ⌝ }
+{
+    let set = sets::weigh(b38, 0x4000000000)
+        + sets::weigh(b39, 0x8000000000)
+        + sets::weigh(b40, 0x10000000000)
+        + sets::weigh(b41, 0x20000000000)
+        + sets::weigh(b42, 0x40000000000);
+    let level = super::worst(b38 | (b39 | (b41 | b42)), false, b40);
+    Found { set, level }
+}
+
+pub fn judge(record: &[u8]) -> Found
+    requires { ⌜ Writer (now «record») ⌝ }
+    ensures { λ r. ⌜ ((t : Tables) (before : List Bytes) → Judged t before (now («record» .entry)) r) ⌝ }
+{
+    let place = designation_in_force(record);
+    gather(
+        found38(record),
+        found39(record, place),
+        found40(record, place),
+        found41(record),
+        found42(record),
+    )
+}
