@@ -1,0 +1,72 @@
+-- A tally with one detail more. Assumes nothing.
+use Prim.Native.Nat.{ℕ, suc, _+_, _*_, _^_, _≤_, _<_}
+use Prim.Native.String.{String}
+use native.Mathlib.Omega.{arith}
+use mathlib.Core.Path.{_≡_, refl, sym, ap, _∙_, subst}
+use mathlib.Core.Bool.{Bool, true, false, _||_, or-false}
+use mathlib.Core.List.{List, [], _∷_, _++_}
+use lib.Dec.{eqb}
+use lib.Dec.{lit<}
+use lib.ListN.{length, length-append, getD}
+use Rattle.format.specs.Ascii.{ascii}
+use Rattle.format.specs.Bytes.{Bytes, sameBytes, among}
+use Rattle.format.specs.Structure.{mostRecords}
+use Rattle.rules.specs.Tables.{designations}
+use Rattle.rules.specs.Records.{isType, isPublisher, isWriter}
+use Rattle.rules.specs.Writers.{creators, changers, authors}
+use Rattle.rules.proofs.Types.{type-is, of-two, publisher-no-writer, writer-no-publisher}
+use Rattle.totals.specs.Sums.{Below}
+use Rattle.totals.specs.declared.Totals.{Totals}
+use Rattle.marks.specs.Marked.{isInstrument}
+use Rattle.edits.specs.Places.{placeOf}
+use Rattle.edits.specs.Before.{sequenceOf, lastSequence}
+use Rattle.edits.proofs.Places.{place-is}
+use Rattle.edits.proofs.Before.{last-more}
+
+-- ---- what a record is not
+
+pub publisher-unmarked : (r : Bytes) → isPublisher r ≡ true → (isInstrument r ≡ false) × (isType "EWT" r ≡ false) × (isType "VER" r ≡ false)
+publisher-unmarked r e = of-two "SPU" "OPU" r (λ t. ((sameBytes (ascii "INS") t || sameBytes (ascii "IND") t) ≡ false) × (sameBytes (ascii "EWT") t ≡ false) × (sameBytes (ascii "VER") t ≡ false)) (refl, refl, refl) (refl, refl, refl) e
+
+pub instrument-neither : (r : Bytes) → isInstrument r ≡ true → (isPublisher r ≡ false) × (isWriter r ≡ false)
+instrument-neither r e = of-two "INS" "IND" r (λ t. ((sameBytes (ascii "SPU") t || sameBytes (ascii "OPU") t) ≡ false) × ((sameBytes (ascii "SWR") t || sameBytes (ascii "OWR") t) ≡ false)) (refl, refl) (refl, refl) e
+
+-- ---- designations by their place
+
+module _ (code : Bytes) (place : ℕ) (its : place ≡ placeOf code designations) where
+  at : (k : ℕ) → k < length designations → eqb place k ≡ sameBytes (getD designations k []) code
+  at k h = ap (λ n. eqb n k) its ∙ place-is code designations refl k h
+
+  pub creator-at : among code creators ≡ (eqb place 0 || (eqb place 1 || eqb place 2))
+  creator-at = rw (at 0 (lit< tt), at 1 (lit< tt), at 2 (lit< tt), or-false)
+
+  pub changer-at : among code changers ≡ (eqb place 3 || (eqb place 4 || (eqb place 5 || (eqb place 6 || eqb place 7))))
+  changer-at = rw (at 3 (lit< tt), at 4 (lit< tt), at 5 (lit< tt), at 6 (lit< tt), at 7 (lit< tt), or-false)
+
+  pub author-at : among code authors ≡ (eqb place 0 || (eqb place 1 || (eqb place 6 || eqb place 7)))
+  author-at = rw (at 0 (lit< tt), at 1 (lit< tt), at 6 (lit< tt), at 7 (lit< tt), or-false)
+
+-- ---- the last sequence number
+
+pub last-on : (ds : List Bytes) (r : Bytes) → isPublisher r ≡ true → lastSequence (ds ++ r ∷ []) ≡ sequenceOf r
+last-on ds r e = last-more ds r ∙ rw e
+
+pub last-kept : (ds : List Bytes) (r : Bytes) → isPublisher r ≡ false → lastSequence (ds ++ r ∷ []) ≡ lastSequence ds
+last-kept ds r e = last-more ds r ∙ rw e
+
+-- ---- bounds
+
+one-more : (ds : List Bytes) (r : Bytes) → length (ds ++ r ∷ []) ≡ length ds + 1
+one-more ds r = length-append ds (r ∷ [])
+
+pub below-on : (t : Totals) (ds : List Bytes) (r : Bytes) → Below (99999 * length ds + 99999) t → Below (99999 * length (ds ++ r ∷ [])) t
+below-on t ds r b = subst (λ (k : ℕ). Below k t) (omega (arith, one-more ds r)) b
+
+pub below-kept : (t : Totals) (ds : List Bytes) (r : Bytes) → Below (99999 * length ds) t → Below (99999 * length (ds ++ r ∷ [])) t
+below-kept t ds r b =
+    let m : 99999 * length ds ≤ 99999 * length (ds ++ r ∷ []) = omega (arith, one-more ds r) in
+    ((omega (arith, b .0 .0), omega (arith, b .0 .1), omega (arith, b .0 .2)), (omega (arith, b .1 .0), omega (arith, b .1 .1), omega (arith, b .1 .2)))
+
+-- within the size limits no total comes near 2 to the 60
+pub below-limits : (t : Totals) (ds : List Bytes) → length ds ≤ mostRecords → Below (99999 * length ds) t → Below (2 ^ 60) t
+below-limits t ds few b = ((omega (arith, b .0 .0), omega (arith, b .0 .1), omega (arith, b .0 .2)), (omega (arith, b .1 .0), omega (arith, b .1 .1), omega (arith, b .1 .2)))
