@@ -6,7 +6,7 @@ use lib.Dec.{eqb}
 use Rattle.format.specs.Bytes.{Bytes}
 use Rattle.format.specs.Doc.{Doc, Group, Transaction}
 use Rattle.rules.specs.Tables.{Tables}
-use Rattle.rules.specs.Findings.{Level, TR, level, verdict, larger, worst}
+use Rattle.rules.specs.Findings.{Level, TR, setOf, bytesOf, level, verdict, larger, worst}
 use Rattle.rules.specs.Works.{namedType, is0, transactionFindings}
 
 -- one list behind the other
@@ -17,6 +17,10 @@ joined f (x ∷ xs) = f x ++ joined f xs
 abbrev pub anyOf : {A : Type 0} → (A → Bool) → List A → Bool
 anyOf p [] = false
 anyOf p (x ∷ xs) = p x || anyOf p xs
+
+-- what a buffer has for sets of findings: eight bytes each, one behind the other
+unfoldable pub findingBytes : List (List Bool) → Bytes
+findingBytes sets = joined (λ (set : List Bool). bytesOf 8 (setOf set)) sets
 
 -- some finding from number n on that holds has level TR
 abbrev pub rejectsFrom : ℕ → List Bool → Bool

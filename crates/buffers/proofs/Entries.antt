@@ -1,0 +1,113 @@
+-- Laws of `Written`, and of what a walk still owes. Assumes nothing.
+use mathlib.Core.Path.{_≡_, refl, sym, ap, _∙_}
+use mathlib.Core.Bool.{Bool}
+use mathlib.Core.List.{List, [], _∷_, _++_}
+use Prim.Native.Nat.{ℕ, suc, _+_, _-_, _*_, _<_, _≤_}
+use native.Mathlib.Omega.{arith}
+use lib.ListN.{length, take, drop, set, length-append}
+use borrow.Rule.Slice.PartMut.{putMid}
+use Rattle.format.specs.Bytes.{Bytes}
+use Rattle.rules.specs.Findings.{setOf, bytesOf}
+use Rattle.rules.specs.Verdicts.{findingBytes}
+use Rattle.rules.proofs.Joined.{findings-one, findings-append, length-findings}
+use Rattle.buffers.specs.Written.{splice, Written}
+use Rattle.buffers.proofs.Splice.{splice-nil, set-splice, part-splice, length-splice, mid, splice-on, splice-over, splice-before}
+
+-- what is still to be written from record i on makes the buffers tv and tf
+pub record Owed (tv tf : Bytes) (i : ℕ) (vs : List ℕ) (fs : List (List Bool)) (v f : Bytes) : Type 0 where
+  pub verdicts : splice i vs v ≡ tv
+  pub findings : splice (8 * i) (findingBytes fs) f ≡ tf
+
+-- ---- one entry
+
+-- a verdict is stored at i, and the part that is entry i of the findings comes back as the eight bytes of a set
+pub entry : (i x n : ℕ) (s : List Bool) (v f ys : Bytes) → i < length v → 8 * (i + 1) ≤ length f → ys ≡ bytesOf 8 n → n ≡ setOf s
+    → Written i (x ∷ []) (s ∷ []) v f (set v i x) (putMid (8 * i) (8 * i + 8 - 8 * i) f ys)
+entry i x n s v f ys h g e q =
+    let k : 8 * i + 8 - 8 * i ≡ 8 = omega arith in
+    let z : ys ≡ findingBytes (s ∷ []) = e ∙ rw q (sym (findings-one s)) in
+    record {
+      verdicts = set-splice i x v h;
+      findings = rw (k, z) (part-splice (8 * i) 8 (findingBytes (s ∷ [])) f (length-findings (s ∷ [])));
+      even = refl;
+      inV = omega arith;
+      inF = omega arith;
+    }
+
+-- ---- many
+
+-- where the findings of the records behind these begin
+next-findings : (i : ℕ) (fs : List (List Bool)) → 8 * i + length (findingBytes fs) ≡ 8 * (i + length fs)
+next-findings i fs = omega (arith, length-findings fs)
+
+module _ {i : ℕ} {vs : List ℕ} {fs : List (List Bool)} {v f v' f' : Bytes} (w : Written i vs fs v f v' f') where
+  long-v : i + length vs ≤ length v
+  long-v = omega (arith, w .even, w .inV)
+
+  long-f : 8 * i + length (findingBytes fs) ≤ length f
+  long-f = omega (arith, length-findings fs, w .inF)
+
+  pub kept-v : length v' ≡ length v
+  kept-v = ap length (w .verdicts) ∙ length-splice i vs v long-v
+
+  pub kept-f : length f' ≡ length f
+  kept-f = ap length (w .findings) ∙ length-splice (8 * i) (findingBytes fs) f long-f
+
+  on-v : (us : List ℕ) → splice (i + length fs) us v' ≡ splice i (vs ++ us) v
+  on-v us = rw (w .verdicts, ← w .even) (splice-on i vs v long-v us)
+
+  on-f : (gs : List (List Bool)) → splice (8 * (i + length fs)) (findingBytes gs) f' ≡ splice (8 * i) (findingBytes (fs ++ gs)) f
+  on-f gs = rw (w .findings, ← next-findings i fs, findings-append fs gs) (splice-on (8 * i) (findingBytes fs) f long-f (findingBytes gs))
+
+  -- a part of what was owed is written: the rest is owed
+  pub paid : {tv tf : Bytes} (us : List ℕ) (gs : List (List Bool)) → Owed tv tf i (vs ++ us) (fs ++ gs) v f
+      → Owed tv tf (i + length fs) us gs v' f'
+  paid us gs o = record { verdicts = on-v us ∙ o .verdicts; findings = on-f gs ∙ o .findings }
+
+  -- more is written behind it
+  pub then : {us : List ℕ} {gs : List (List Bool)} {v'' f'' : Bytes} → Written (i + length fs) us gs v' f' v'' f''
+      → Written i (vs ++ us) (fs ++ gs) v f v'' f''
+  then {us = us} {gs = gs} n = record {
+    verdicts = n .verdicts ∙ on-v us;
+    findings = n .findings ∙ on-f gs;
+    even = length-append vs us ∙ omega (arith, w .even, n .even) ∙ sym (length-append fs gs);
+    inV = omega (arith, length-append fs gs, n .inV, kept-v);
+    inF = omega (arith, length-append fs gs, n .inF, kept-f);
+  }
+
+  -- other verdicts are written over it
+  pub again : (us : List ℕ) (v'' : Bytes) → length us ≡ length vs → v'' ≡ splice i us v' → Written i us fs v f v'' f'
+  again us v'' e n = record {
+    verdicts = n ∙ rw (w .verdicts) (splice-over i vs v long-v us e);
+    findings = w .findings;
+    even = e ∙ w .even;
+    inV = w .inV;
+    inF = w .inF;
+  }
+
+  pub stood : take (length fs) (drop i v') ≡ vs
+  stood = rw (w .verdicts, ← w .even) (mid i vs v long-v)
+
+-- the entry before the others is written last
+pub first : {i x : ℕ} {s : List Bool} {us : List ℕ} {gs : List (List Bool)} {v f v' f' v'' f'' : Bytes}
+    → Written (i + 1) us gs v f v' f' → Written i (x ∷ []) (s ∷ []) v' f' v'' f'' → Written i (x ∷ us) (s ∷ gs) v f v'' f''
+first {i} {x} {s} {us} {gs} {v} {f} w n = record {
+  verdicts = n .verdicts ∙ rw (w .verdicts) (splice-before (i + 1) us v (long-v w) i (x ∷ []) refl);
+  findings =
+    n .findings
+    ∙ rw (w .findings, findings-append (s ∷ []) gs)
+    (splice-before (8 * (i + 1)) (findingBytes gs) f (long-f w) (8 * i) (findingBytes (s ∷ [])) (next-findings i (s ∷ [])));
+  even = ap suc (w .even);
+  inV = omega (arith, w .inV);
+  inF = omega (arith, w .inF);
+}
+
+-- nothing is owed any more
+pub settled : {tv tf v f : Bytes} (i : ℕ) → Owed tv tf i [] [] v f → (v ≡ tv) × (f ≡ tf)
+unfolding findingBytes
+settled {v = v} {f = f} i o = (sym (splice-nil i v) ∙ o .verdicts, sym (splice-nil (8 * i) f) ∙ o .findings)
+
+-- at the start all is owed
+pub owe : (i : ℕ) (vs : List ℕ) (fs : List (List Bool)) (v f : Bytes)
+    → Owed (splice i vs v) (splice (8 * i) (findingBytes fs) f) i vs fs v f
+owe i vs fs v f = record { verdicts = refl; findings = refl }
