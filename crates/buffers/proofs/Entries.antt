@@ -20,15 +20,16 @@ pub record Owed (tv tf : Bytes) (i : ℕ) (vs : List ℕ) (fs : List (List Bool)
 
 -- ---- one entry
 
--- a verdict is stored at i, and the part that is entry i of the findings comes back as the eight bytes of a set
-pub entry : (i x n : ℕ) (s : List Bool) (v f ys : Bytes) → i < length v → 8 * (i + 1) ≤ length f → ys ≡ bytesOf 8 n → n ≡ setOf s
-    → Written i (x ∷ []) (s ∷ []) v f (set v i x) (putMid (8 * i) (8 * i + 8 - 8 * i) f ys)
-entry i x n s v f ys h g e q =
-    let k : 8 * i + 8 - 8 * i ≡ 8 = omega arith in
-    let z : ys ≡ findingBytes (s ∷ []) = e ∙ rw q (sym (findings-one s)) in
+-- a verdict is stored at i, and of the findings the eight bytes before e, where the next record's begin, come back as those of a set
+pub entry : (i x n : ℕ) (s : List Bool) (v f ys : Bytes) (e : ℕ) → e ≡ 8 * (i + 1) → i < length v → e ≤ length f → ys ≡ bytesOf 8 n → n ≡ setOf s
+    → Written i (x ∷ []) (s ∷ []) v f (set v i x) (putMid (e - 8) (e - (e - 8)) f ys)
+entry i x n s v f ys e k h g y q =
+    let a : e - 8 ≡ 8 * i = omega arith in
+    let w : e - 8 * i ≡ 8 = omega arith in
+    let z : ys ≡ findingBytes (s ∷ []) = y ∙ rw q (sym (findings-one s)) in
     record {
       verdicts = set-splice i x v h;
-      findings = rw (k, z) (part-splice (8 * i) 8 (findingBytes (s ∷ [])) f (length-findings (s ∷ [])));
+      findings = rw (a, w, z) (part-splice (8 * i) 8 (findingBytes (s ∷ [])) f (length-findings (s ∷ [])));
       even = refl;
       inV = omega arith;
       inF = omega arith;
@@ -94,9 +95,9 @@ pub first : {i x : ℕ} {s : List Bool} {us : List ℕ} {gs : List (List Bool)} 
 first {i} {x} {s} {us} {gs} {v} {f} w n = record {
   verdicts = n .verdicts ∙ rw (w .verdicts) (splice-before (i + 1) us v (long-v w) i (x ∷ []) refl);
   findings =
-    n .findings
-    ∙ rw (w .findings, findings-append (s ∷ []) gs)
-    (splice-before (8 * (i + 1)) (findingBytes gs) f (long-f w) (8 * i) (findingBytes (s ∷ [])) (next-findings i (s ∷ [])));
+      n .findings
+      ∙ rw (w .findings, findings-append (s ∷ []) gs)
+      (splice-before (8 * (i + 1)) (findingBytes gs) f (long-f w) (8 * i) (findingBytes (s ∷ [])) (next-findings i (s ∷ [])));
   even = ap suc (w .even);
   inV = omega (arith, w .inV);
   inF = omega (arith, w .inF);

@@ -8,17 +8,18 @@ ghost use Rattle.rules.specs.Findings.{setOf, larger};
 ghost use Rattle.rules.specs.Verdicts.{raised};
 ghost use Rattle.buffers.specs.Written.{Written};
 
-// Writes one record's verdict and findings, each to the record's place.
+// Writes one record's verdict and findings, each to the record's place. Every number is the set of some list (set-places of `sets`).
 pub fn settle(index: usize, set: u64, verdict: u8, verdicts: &mut [u8], findings: &mut [u8])
     requires { ⌜ (index < length (now verdicts)) × (8 * (index + 1) ≤ length (now findings)) ⌝ }
     ensures { λ _. ⌜ ((s : List Bool) → set ≡ setOf s → Written index (verdict ∷ []) (s ∷ []) (now (verdicts .entry)) (now (findings .entry)) (now (verdicts .exit)) (now (findings .exit))) ⌝ }
 {
     verdicts[index] = verdict;
-    let start = 8 * index;
-    let end = start + 8;
+    let end = 8 * (index + 1);
+    let start = end - 8;
     sets::put(set, &mut findings[start..end]);
 }
 
+// The larger of two. It only picks, so that the loop of `raise` is compiled to a maximum of sixteen verdicts at once.
 fn larger_of(a: u8, b: u8) -> u8
     ensures { λ r. ⌜ r ≡ larger a b ⌝ }
 {
