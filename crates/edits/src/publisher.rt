@@ -21,7 +21,7 @@ use fields::Share;
 use fields::ShareField;
 
 // Whether it is an SPU; else it is an OPU.
-fn is_spu(record: &[u8]) -> bool
+pub fn is_spu(record: &[u8]) -> bool
     requires { ⌜ Publisher (now «record») ⌝ }
     ensures { λ r. ⌜ r ≡ isType "SPU" (now («record» .entry)) ⌝ }
     ensures { λ r. ⌜ not r ≡ isType "OPU" (now («record» .entry)) ⌝ }
