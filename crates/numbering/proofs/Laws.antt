@@ -18,7 +18,7 @@ use Rattle.format.proofs.Passes.{Along}
 use Rattle.kinds.specs.Rows.{rowFor}
 use Rattle.kinds.specs.declared.Row.{Row}
 use Rattle.lines.specs.Scan.{textLength}
-use Rattle.numbers.specs.Tally.{tally, Within}
+use Rattle.numbers.specs.Tally.{tally, Kept}
 use Rattle.numbers.specs.declared.Counts.{Counts as CodeCounts}
 use Rattle.structure.specs.Rest.{isGood}
 use Rattle.structure.specs.Walk.{Bounded, Next}
@@ -85,7 +85,7 @@ pub record Filling (f old : Bytes) (out : Bytes) (s : Stand) : Type 0 where
   pub owed : take (s .at) out ++ unlines (number (tally (s .counts)) (map (held cwr22) (recordsIn (lines (drop (s .at) f))))) ≡ numberedFile cwr22 f
   pub kept : drop (s .at) out ≡ drop (s .at) old
 
-pub filling-start : (f old : Bytes) → Sized f → (n : CodeCounts) → tally n ≡ zeros → Within n → n .records ≡ 0
+pub filling-start : (f old : Bytes) → Sized f → (n : CodeCounts) → tally n ≡ zeros → Kept n → n .records ≡ 0
     → Filling f old old (record { at = 0; place = 6; counts = n })
 unfolding numberedFile
 filling-start f old s n e w z =

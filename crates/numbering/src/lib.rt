@@ -45,7 +45,7 @@ fn fill(file: &[u8], out: &mut [u8])
         let row = kinds::confirmed(rows[k], &file[at..]);
         let end = at + row.size() + 2;
         number_line(&file[at..end], &mut out[at..end], row.place, counts);
-        s = structure::behind(s, row);
+        s = structure::behind(s, row.length, row.place);
     }
 }
 

@@ -6,17 +6,21 @@ use lib.ListN.{length, take, drop}
 use Rattle.format.specs.Bytes.{Bytes, decimal}
 use Rattle.format.specs.Table.{Class, at, width}
 use Rattle.format.specs.Checks.{Counts, expected}
+use Rattle.text.specs.Words.{bytesOf}
 use Rattle.numbers.specs.declared.Numbers.{Numbers}
 use Rattle.numbers.specs.declared.Numbers.the-variants.{Nothing, Group, Prefix, Totals}
 
--- two numbers beside one another
+-- two numbers beside one another, and two words
 unfoldable pub pair : ℕ → ℕ → Bytes
 pair t r = decimal 8 t ++ decimal 8 r
+
+unfoldable pub words : ℕ → ℕ → Bytes
+words t r = bytesOf 8 t ++ bytesOf 8 r
 
 abbrev pub digitsOf : Numbers → Bytes
 digitsOf Nothing = []
 digitsOf (Group g) = decimal 5 g
-digitsOf (Prefix t r) = pair t r
+digitsOf (Prefix t r) = words t r
 digitsOf (Totals g t r) = decimal 5 g ++ pair t r
 
 -- where they start, counted from 1, and how many bytes they take

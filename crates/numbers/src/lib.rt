@@ -6,14 +6,16 @@ use kinds::HEAD;
 use kinds::TRL;
 ghost use mathlib.Core.Path.{_≡_};
 ghost use mathlib.Core.List.{_++_};
-ghost use Prim.Native.Nat.{pred, _+_, _-_, _≤_};
+ghost use mathlib.Core.Bool.{cond};
+ghost use Prim.Native.Nat.{_+_, _-_, _≤_};
 ghost use lib.ListN.{length, take, drop};
 ghost use Rattle.format.specs.Bytes.{sameBytes, decimal};
 ghost use Rattle.format.specs.Fields.{fieldOf};
 ghost use Rattle.format.specs.Table.{at, width};
 ghost use Rattle.format.specs.Checks.{zeros, count, classAt, slot, expected};
-ghost use Rattle.numbers.specs.Tally.{tally, Within, Room};
-ghost use Rattle.numbers.specs.Carried.{pair, digitsOf, startOf, sizeOf, over, Carried};
+ghost use Rattle.text.specs.Words.{wordOf, bytesOf};
+ghost use Rattle.numbers.specs.Tally.{tally, Written, Kept, Room};
+ghost use Rattle.numbers.specs.Carried.{pair, words, digitsOf, startOf, sizeOf, over, Carried};
 
 // What was counted before a record, as the format's `Counts`.
 pub struct Counts {
@@ -27,7 +29,17 @@ pub struct Counts {
     pub in_transaction: u64,
     // All records.
     pub records: u64,
+    // As words, so that nearly every record costs no division: the digits of in_group, which the next header carries, those of one
+    // less, which its details carry, and those of in_transaction.
+    pub header_word: u64,
+    pub detail_word: u64,
+    pub record_word: u64,
 }
+
+// The words of the eight digits of 0 and 1.
+const ZERO: u64 = 0x3030303030303030;
+
+const ONE: u64 = 0x3130303030303030;
 
 // The numbers that a record carries in its number positions.
 pub enum Numbers {
@@ -35,7 +47,7 @@ pub enum Numbers {
     Nothing,
     // GRH: the group.
     Group(u64),
-    // A header or detail: the transaction in its group, the record in its transaction.
+    // A header or detail: the transaction in its group and the record in its transaction, as words.
     Prefix(u64, u64),
     // GRT and TRL: the group or how many there are, transactions, records.
     Totals(u64, u64, u64),
@@ -53,6 +65,9 @@ impl Counts {
             group_records: 0,
             in_transaction: 0,
             records: 0,
+            header_word: ZERO,
+            detail_word: ZERO,
+            record_word: ZERO,
         }
     }
 
@@ -60,8 +75,9 @@ impl Counts {
     pub fn with(mut self, place: u8) -> Counts
         requires { ⌜ Room self ⌝ }
         ensures { λ r. ⌜ tally r ≡ count (tally self) (classAt place) ⌝ }
-        ensures { λ r. ⌜ Within r × (r .records ≡ self .records + 1) ⌝ }
+        ensures { λ r. ⌜ Kept r × (r .records ≡ self .records + 1) ⌝ }
     {
+        let next = self.grown(place == HEAD);
         self.records += 1;
         match place {
             GRH => {
@@ -69,6 +85,9 @@ impl Counts {
                 self.in_group = 0; // so that each group numbers its transactions anew
                 self.group_records = 1;
                 self.in_transaction = 0;
+                self.header_word = ZERO;
+                self.detail_word = ZERO;
+                self.record_word = ZERO;
                 self
             }
             HEAD => {
@@ -76,21 +95,39 @@ impl Counts {
                 self.in_group += 1;
                 self.group_records += 1;
                 self.in_transaction = 1;
+                self.detail_word = self.header_word;
+                self.header_word = next;
+                self.record_word = ONE;
                 self
             }
             DETAIL => {
                 self.group_records += 1;
                 self.in_transaction += 1;
+                self.record_word = next;
                 self
             }
             GRT => {
                 self.in_group = 0;
                 self.group_records = 0;
                 self.in_transaction = 0;
+                self.header_word = ZERO;
+                self.detail_word = ZERO;
+                self.record_word = ZERO;
                 self
             }
             _ => self,
         }
+    }
+
+    // The word of the count that a header makes one more, or of the one that a detail does. Both in one call, which the compiler takes
+    // apart in place.
+    fn grown(self, head: bool) -> u64
+        requires { ⌜ Written self ⌝ }
+        ensures { λ r. ⌜ r ≡ wordOf (decimal 8 (cond head (self .«in_group») (self .«in_transaction») + 1)) ⌝ }
+    {
+        let word = pick(head, self.header_word, self.record_word);
+        let count = pick(head, self.in_group, self.in_transaction);
+        text::next_eight(word, count)
     }
 
     // The numbers that the next record has to carry, if it is of that place. Transactions are numbered from 0: a header has how many
@@ -101,8 +138,8 @@ impl Counts {
     {
         match place {
             GRH => Numbers::Group(self.groups + 1),
-            HEAD => Numbers::Prefix(self.in_group, 0),
-            DETAIL => Numbers::Prefix(before(self.in_group), self.in_transaction),
+            HEAD => Numbers::Prefix(self.header_word, ZERO),
+            DETAIL => Numbers::Prefix(self.detail_word, self.record_word),
             GRT => Numbers::Totals(self.groups, self.in_group, self.group_records + 1),
             TRL => Numbers::Totals(self.groups, self.transactions, self.records + 1),
             _ => Numbers::Nothing,
@@ -137,7 +174,7 @@ impl Numbers {
         match self {
             Numbers::Nothing => true,
             Numbers::Group(g) => stands(g, record, 7, 5),
-            Numbers::Prefix(t, r) => pair_stands(t, r, record, 4),
+            Numbers::Prefix(t, r) => words_stand(t, r, record),
             Numbers::Totals(g, t, r) => stands(g, record, 4, 5) & pair_stands(t, r, record, 9),
         }
     }
@@ -150,7 +187,7 @@ impl Numbers {
         match self {
             Numbers::Nothing => {}
             Numbers::Group(g) => write(g, out, 7, 5),
-            Numbers::Prefix(t, r) => write_pair(t, r, out, 4),
+            Numbers::Prefix(t, r) => write_words(t, r, out),
             Numbers::Totals(g, t, r) => {
                 write(g, out, 4, 5);
                 write_pair(t, r, out, 9)
@@ -159,11 +196,10 @@ impl Numbers {
     }
 }
 
-// One less; 0 of 0, where a detail stands before any header.
-fn before(n: u64) -> u64
-    ensures { λ r. ⌜ r ≡ pred n ⌝ }
+fn pick(first: bool, a: u64, b: u64) -> u64
+    ensures { λ r. ⌜ r ≡ cond first a b ⌝ }
 {
-    if n == 0 { 0 } else { n - 1 }
+    if first { a } else { b }
 }
 
 // Whether the field with this start, counted from 1, and this size has the digits of n.
@@ -189,14 +225,7 @@ fn pair_stands(t: u64, r: u64, record: &[u8], start: usize) -> bool
     requires { ⌜ (1 ≤ start) × (start - 1 + (8 + 8) ≤ length (now «record»)) ⌝ }
     ensures { λ s. ⌜ s ≡ sameBytes (fieldOf start (8 + 8) (now («record» .entry))) (pair t r) ⌝ }
 {
-    eight_stand(t, record, start) & eight_stand(r, record, start + 8)
-}
-
-fn eight_stand(n: u64, record: &[u8], start: usize) -> bool
-    requires { ⌜ (1 ≤ start) × (start - 1 + 8 ≤ length (now «record»)) ⌝ }
-    ensures { λ r. ⌜ r ≡ sameBytes (fieldOf start 8 (now («record» .entry))) (decimal 8 n) ⌝ }
-{
-    text::is_eight(n, text::field(record, start, 8))
+    stands(t, record, start, 8) & stands(r, record, start + 8, 8)
 }
 
 fn write_pair(t: u64, r: u64, out: &mut [u8], start: usize)
@@ -205,4 +234,36 @@ fn write_pair(t: u64, r: u64, out: &mut [u8], start: usize)
 {
     write(t, out, start, 8);
     write(r, out, start + 8, 8);
+}
+
+// The same as words, where a header or detail has them.
+fn word_stands(x: u64, record: &[u8], start: usize) -> bool
+    requires { ⌜ (1 ≤ start) × (start - 1 + 8 ≤ length (now «record»)) ⌝ }
+    ensures { λ r. ⌜ r ≡ sameBytes (fieldOf start 8 (now («record» .entry))) (bytesOf 8 x) ⌝ }
+{
+    text::is_word(x, text::field(record, start, 8))
+}
+
+fn words_stand(t: u64, r: u64, record: &[u8]) -> bool
+    requires { ⌜ 3 + (8 + 8) ≤ length (now «record») ⌝ }
+    ensures { λ s. ⌜ s ≡ sameBytes (fieldOf 4 (8 + 8) (now («record» .entry))) (words t r) ⌝ }
+{
+    word_stands(t, record, 4) & word_stands(r, record, 12)
+}
+
+fn write_word(x: u64, out: &mut [u8], start: usize)
+    requires { ⌜ (1 ≤ start) × (start - 1 + 8 ≤ length (now out)) ⌝ }
+    ensures { λ _. ⌜ now (out .exit) ≡ over start (bytesOf 8 x) (now (out .entry)) ⌝ }
+{
+    let a = start - 1;
+    let e = a + 8;
+    text::store_eight(x, &mut out[a..e]);
+}
+
+fn write_words(t: u64, r: u64, out: &mut [u8])
+    requires { ⌜ 3 + (8 + 8) ≤ length (now out) ⌝ }
+    ensures { λ _. ⌜ now (out .exit) ≡ over 4 (words t r) (now (out .entry)) ⌝ }
+{
+    write_word(t, out, 4);
+    write_word(r, out, 12);
 }

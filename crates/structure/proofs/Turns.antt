@@ -20,7 +20,7 @@ use Rattle.kinds.specs.declared.Row.{Row}
 use Rattle.kinds.proofs.Tests.{both}
 use Rattle.kinds.proofs.Laws.{first-three, hinted}
 use Rattle.lines.proofs.Laws.{every-text, pair-behind}
-use Rattle.numbers.specs.Tally.{tally, Within}
+use Rattle.numbers.specs.Tally.{tally, Kept}
 use Rattle.numbers.specs.declared.Counts.{Counts as CodeCounts}
 use Rattle.structure.specs.Rest.{orElse, Faults, restFrom, moreFaults}
 use Rattle.structure.specs.Walk.{Roomy, Bounded, Stood, RightAt, Next}
@@ -63,7 +63,7 @@ module _ (f : Bytes) (asked : Bool) (s : Stand) (row : Row) (next : Stand) where
       record {
         inside = rw (x .at) k;
         place = rw (x .place) h;
-        within = x .within;
+        kept = x .kept;
         few = omega (arith, b .few, x .at, x .records);
       }
 
@@ -148,10 +148,10 @@ module _ (f : Bytes) (asked : Bool) (s : Stand) (row : Row) where
 
 -- ---- the walk's start, and its turn with a row of the table
 
-pub bounded-start : (f : Bytes) (n : CodeCounts) → Within n → n .records ≡ 0 → Bounded f (record { at = 0; place = 6; counts = n })
-bounded-start f n w z = record { inside = omega arith; place = omega arith; within = w; few = omega (arith, z) }
+pub bounded-start : (f : Bytes) (n : CodeCounts) → Kept n → n .records ≡ 0 → Bounded f (record { at = 0; place = 6; counts = n })
+bounded-start f n w z = record { inside = omega arith; place = omega arith; kept = w; few = omega (arith, z) }
 
-pub stood-start : (f : Bytes) (asked : Bool) (n : CodeCounts) → tally n ≡ zeros → Within n → n .records ≡ 0
+pub stood-start : (f : Bytes) (asked : Bool) (n : CodeCounts) → tally n ≡ zeros → Kept n → n .records ≡ 0
     → Stood f asked (record { at = 0; place = 6; counts = n })
 stood-start f asked n e w z = record { bounded = bounded-start f n w z; rest = λ version. rw e }
 

@@ -10,7 +10,7 @@ use Rattle.format.specs.Cwr22.{cwr22}
 use Rattle.format.specs.Checks.{classAt, zeros, count, mayFollow, slot, expected}
 use Rattle.kinds.specs.Rows.{typeOf}
 use Rattle.kinds.specs.declared.Row.{Row}
-use Rattle.numbers.specs.Tally.{tally, Within}
+use Rattle.numbers.specs.Tally.{tally, Kept}
 use Rattle.structure.specs.declared.Stand.{Stand}
 use Rattle.structure.specs.declared.Met.{Met}
 use Rattle.structure.specs.Rest.{Faults, restFrom}
@@ -25,7 +25,7 @@ pub record Roomy (r : Row) : Type 0 where
 pub record Bounded (f : Bytes) (s : Stand) : Type 0 where
   pub inside : s .at ≤ length f
   pub place : s .place ≤ 6
-  pub within : Within (s .counts)
+  pub kept : Kept (s .counts)
   pub few : s .counts .records ≤ s .at
 
 -- all before was right, so the rest decides, whatever is found of the version
@@ -49,7 +49,7 @@ pub record Next (s : Stand) (l p : ℕ) (r : Stand) : Type 0 where
   pub at : r .at ≡ s .at + l + 2
   pub place : r .place ≡ p
   pub counts : tally (r .counts) ≡ count (tally (s .counts)) (classAt p)
-  pub within : Within (r .counts)
+  pub kept : Kept (r .counts)
   pub records : r .counts .records ≡ s .counts .records + 1
 
 -- the place of a fault as code has it: 0 for none, else one more

@@ -26,7 +26,7 @@ ghost use Rattle.format.specs.Structure.{unless, mostBytes, structure};
 ghost use Rattle.format.specs.Numbering.{numbering, recordsIn};
 ghost use Rattle.answers.specs.Numbers.{answerOf};
 ghost use Rattle.kinds.specs.Rows.{rowFor};
-ghost use Rattle.numbers.specs.Tally.{tally, Within, Room};
+ghost use Rattle.numbers.specs.Tally.{tally, Kept, Room};
 ghost use Rattle.structure.specs.Rest.{orElse, faultless, judgedFrom, restFrom, moreFaults, atEnd, isGood};
 ghost use Rattle.structure.specs.Walk.{Roomy, Bounded, Stood, RightAt, Next, met, faultsOf};
 
@@ -74,16 +74,16 @@ fn version(record: &[u8]) -> bool
         & (text::number(revision) <= 2)
 }
 
-// Behind one record more, of that row.
-pub fn behind(s: Stand, row: Row) -> Stand
-    requires { ⌜ (s .at ≤ mostBytes) × (Within (s .counts)) × (s .counts .records ≤ s .at) ⌝ }
-    ensures { λ r. ⌜ Next s (row .length) (row .place) r ⌝ }
+// Behind one record more, of that length and place. (Not of a row: where one is handed on, the compiler keeps it in memory.)
+pub fn behind(s: Stand, length: u16, place: u8) -> Stand
+    requires { ⌜ (s .at ≤ mostBytes) × (Kept (s .counts)) × (s .counts .records ≤ s .at) ⌝ }
+    ensures { λ r. ⌜ Next s length place r ⌝ }
 {
     let counts = s.counts;
-    let more = counts.with(row.place);
+    let more = counts.with(place);
     Stand {
-        at: s.at + row.size() + 2,
-        place: row.place,
+        at: s.at + length as usize + 2,
+        place: place,
         counts: more,
     }
 }
@@ -144,7 +144,7 @@ fn walk(file: &[u8], asked: bool) -> Stand
         if !right(file, asked, s, row) {
             return s;
         }
-        s = behind(s, row);
+        s = behind(s, row.length, row.place);
     }
 }
 
@@ -170,7 +170,7 @@ fn shaped(row: Row, record: &[u8]) -> bool
 
 // The faults met with this record, which is of that row and right by 6.
 fn more(asked: bool, s: Stand, m: Met, record: &[u8], row: Row) -> Met
-    requires { ⌜ (s .place ≤ 6) × (Within (s .counts)) × (s .counts .records ≤ mostBytes) ⌝ }
+    requires { ⌜ (s .place ≤ 6) × (Kept (s .counts)) × (s .counts .records ≤ mostBytes) ⌝ }
     requires { ⌜ (row ≡ rowFor (take 3 (now «record»))) × (typed cwr22 (now «record») ≡ true) ⌝ }
     ensures { λ r. ⌜ faultsOf r ≡ moreFaults cwr22 asked (faultsOf m) (classAt (s .place)) (tally (s .counts)) (now («record» .entry)) ⌝ }
 {
@@ -227,7 +227,7 @@ fn judge(file: &[u8], asked: bool, version: bool, start: Stand) -> Answer
             return Answer::Shape(index(counts.records));
         }
         m = more(asked, s, m, record, row);
-        s = behind(s, row);
+        s = behind(s, row.length, row.place);
     }
     ended(version, s, m)
 }

@@ -124,26 +124,3 @@ module _ (a b c : ℕ) where
   three-are (x ∷ y ∷ []) h = absurd (omega arith)
   three-are (x ∷ y ∷ z ∷ []) h = rw (and-true (eqb z c)) (and-assoc (eqb x a) (eqb y b) (eqb z c))
   three-are (x ∷ y ∷ z ∷ w ∷ l) h = absurd (omega arith)
-
--- ---- eight bytes
-
-pub eight-are : (n : ℕ) (l : List ℕ) → length l ≡ 8
-    → (eqb (getD l 0 0) (48 + n / 10 / 10 / 10 / 10 / 10 / 10 / 10 % 10)
-    && (eqb (getD l 1 0) (48 + n / 10 / 10 / 10 / 10 / 10 / 10 % 10)
-    && (eqb (getD l 2 0) (48 + n / 10 / 10 / 10 / 10 / 10 % 10)
-    && (eqb (getD l 3 0) (48 + n / 10 / 10 / 10 / 10 % 10)
-    && (eqb (getD l 4 0) (48 + n / 10 / 10 / 10 % 10)
-    && (eqb (getD l 5 0) (48 + n / 10 / 10 % 10)
-    && (eqb (getD l 6 0) (48 + n / 10 % 10) && eqb (getD l 7 0) (48 + n % 10))))))))
-    ≡ sameBytes l (decimal 8 n)
-unfolding decimal
-eight-are n [] h = absurd (omega arith)
-eight-are n (a ∷ []) h = absurd (omega arith)
-eight-are n (a ∷ b ∷ []) h = absurd (omega arith)
-eight-are n (a ∷ b ∷ c ∷ []) h = absurd (omega arith)
-eight-are n (a ∷ b ∷ c ∷ d ∷ []) h = absurd (omega arith)
-eight-are n (a ∷ b ∷ c ∷ d ∷ e ∷ []) h = absurd (omega arith)
-eight-are n (a ∷ b ∷ c ∷ d ∷ e ∷ f ∷ []) h = absurd (omega arith)
-eight-are n (a ∷ b ∷ c ∷ d ∷ e ∷ f ∷ g ∷ []) h = absurd (omega arith)
-eight-are n (a ∷ b ∷ c ∷ d ∷ e ∷ f ∷ g ∷ x ∷ []) h = rw (and-true (eqb x (48 + n % 10)))
-eight-are n (a ∷ b ∷ c ∷ d ∷ e ∷ f ∷ g ∷ x ∷ y ∷ l) h = absurd (omega arith)

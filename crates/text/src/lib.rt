@@ -4,6 +4,7 @@ ghost use mathlib.Core.List.{[], _∷_};
 ghost use Prim.Native.Nat.{_+_, _-_, _%_, _^_, _<_, _≤_};
 ghost use lib.ListN.{length};
 ghost use Rattle.format.specs.Bytes.{sameBytes, decimal};
+ghost use Rattle.text.specs.Words.{wordOf, bytesOf};
 ghost use Rattle.format.specs.Fields.{fieldOf, isBlank, isDigit, areDigits, digit, numberOf};
 
 // The part of a record with this start, counted from 1, and this size: lent, not copied.
@@ -130,30 +131,86 @@ pub fn is_decimal(n: u64, part: &[u8]) -> bool
     same
 }
 
-// The last digit of n, as a byte.
-fn last_digit(n: u64) -> u8
-    ensures { λ r. ⌜ r ≡ 48 + n % 10 ⌝ }
+// ---- eight bytes as one word, so that they are compared and written at once
+
+fn wide(b: u8) -> u64
+    ensures { λ r. ⌜ r ≡ b ⌝ }
+    ensures { λ r. ⌜ r ≤ 255 ⌝ }
 {
-    48 + (n % 10) as u8
+    b as u64
 }
 
-// is_decimal of eight digits, no one of which waits for another: nearly every record has two such numbers.
-pub fn is_eight(n: u64, part: &[u8]) -> bool
-    requires { ⌜ length (now part) ≡ 8 ⌝ }
-    ensures { λ r. ⌜ r ≡ sameBytes (now (part .entry)) (decimal 8 n) ⌝ }
+// The first byte of a word.
+fn low(x: u64) -> u8
+    ensures { λ r. ⌜ r ≡ x % 256 ⌝ }
 {
-    let a = n / 10;
-    let b = a / 10;
-    let c = b / 10;
-    let d = c / 10;
-    let e = d / 10;
-    let f = e / 10;
-    let g = f / 10;
-    (part[0] == last_digit(g))
-        & ((part[1] == last_digit(f))
-            & ((part[2] == last_digit(e))
-                & ((part[3] == last_digit(d))
-                    & ((part[4] == last_digit(c))
-                        & ((part[5] == last_digit(b))
-                            & ((part[6] == last_digit(a)) & (part[7] == last_digit(n))))))))
+    (x % 256) as u8
+}
+
+// The word of eight bytes. In this order the compiler makes one load of it.
+pub fn load_eight(part: &[u8]) -> u64
+    requires { ⌜ length (now part) ≡ 8 ⌝ }
+    ensures { λ r. ⌜ r ≡ wordOf (now (part .entry)) ⌝ }
+    ensures { λ r. ⌜ bytesOf 8 r ≡ now (part .entry) ⌝ }
+{
+    wide(part[0])
+        + wide(part[1]) * 256
+        + wide(part[2]) * 65536
+        + wide(part[3]) * 16777216
+        + wide(part[4]) * 4294967296
+        + wide(part[5]) * 1099511627776
+        + wide(part[6]) * 281474976710656
+        + wide(part[7]) * 72057594037927936
+}
+
+// Whether the bytes of a word are what stands there.
+pub fn is_word(x: u64, part: &[u8]) -> bool
+    requires { ⌜ length (now part) ≡ 8 ⌝ }
+    ensures { λ r. ⌜ r ≡ sameBytes (now (part .entry)) (bytesOf 8 x) ⌝ }
+{
+    load_eight(part) == x
+}
+
+// Writes the bytes of a word: one store.
+pub fn store_eight(x: u64, out: &mut [u8])
+    requires { ⌜ length (now out) ≡ 8 ⌝ }
+    ensures { λ _. ⌜ now (out .exit) ≡ bytesOf 8 x ⌝ }
+{
+    let a = x / 256;
+    let b = a / 256;
+    let c = b / 256;
+    let d = c / 256;
+    let e = d / 256;
+    let f = e / 256;
+    let g = f / 256;
+    out[0] = low(x);
+    out[1] = low(a);
+    out[2] = low(b);
+    out[3] = low(c);
+    out[4] = low(d);
+    out[5] = low(e);
+    out[6] = low(f);
+    out[7] = low(g);
+}
+
+// The word of the digits of n + 1, from that of the digits of n. A last digit below 9 grows by one; a 9 becomes 0, and then the digits
+// before it, which are those of `number`, grow. Nine times in ten there is no turn. (No code reads `number`: it is for the proof.)
+pub fn next_eight(word: u64, n: u64) -> u64
+    requires { ⌜ word ≡ wordOf (decimal 8 n) ⌝ }
+    ensures { λ r. ⌜ r ≡ wordOf (decimal 8 (n + 1)) ⌝ }
+{
+    let mut i: u64 = 8;
+    let mut number = n;
+    let mut rest = word;
+    // What the last digit of rest counts.
+    let mut unit = 72057594037927936;
+    let mut zeros = 0;
+    while (0 < i) & (57 * unit <= rest) {
+        zeros = zeros + 48 * unit;
+        rest = rest - 57 * unit;
+        unit = unit / 256;
+        number = number / 10;
+        i -= 1;
+    }
+    zeros + (unit + rest)
 }

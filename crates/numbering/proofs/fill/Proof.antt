@@ -110,12 +110,12 @@ number-line-requires c κs =
     let line = mid-len (c .before .before .before .before .before .before .before .before .before .before .before .before .before .loop .s .at) e (c .before .before .before .before .before .before .before .before .before .before .before .before .before .before .before .before .before .before .args .file .now) (end d) in
     let part = mid-len (c .before .before .before .before .before .before .before .before .before .before .before .before .before .loop .s .at) e (c .before .before .before .before .before .before .before .before .before .before .before .before .before .loop .out) (omega (arith, end d, c .before .before .before .before .before .before .before .before .before .before .before .before .before .before .before .before .before .before .pre .1, F .same)) in
     let fit = room (c .before .before .before .before .before .before .before .before .before .before .before .before .before .before .before .before .before .before .args .file .now) (c .before .before .before .before .before .before .before .before .before .before .before .before .before .before .before .before .before .before .args .out .now) (c .before .before .before .before .before .before .before .before .before .before .before .before .before .loop .out) (c .before .before .before .before .before .before .before .before .before .before .before .before .before .loop .s) F (c .before .before .before .before .before .before .before .before .before .before .before .if1 .taken) (c .before .before .before .confirmed .result) (its d) in
-    (part ∙ sym line, (b .within, omega (arith, b .few, b .inside, c .before .before .before .before .before .before .before .before .before .before .before .before .before .before .before .before .before .before .pre .0 .short)), omega (arith, line, fit, c .before .before .size .ensures))
+    (part ∙ sym line, (b .kept, omega (arith, b .few, b .inside, c .before .before .before .before .before .before .before .before .before .before .before .before .before .before .before .before .before .before .pre .0 .short)), omega (arith, line, fit, c .before .before .size .ensures))
 
 behind-requires : tie.Need-behind-requires Inv-loop μ-loop
 behind-requires c κs =
     let b = c .before .before .before .before .before .before .before .before .before .before .before .before .before .before .before .before .loop .inv .bounded in
-    (omega (arith, b .inside, c .before .before .before .before .before .before .before .before .before .before .before .before .before .before .before .before .before .before .before .before .before .pre .0 .short), b .within, b .few)
+    (omega (arith, b .inside, c .before .before .before .before .before .before .before .before .before .before .before .before .before .before .before .before .before .before .before .before .before .pre .0 .short), b .kept, b .few)
 
 loop-less : tie.Need-loop-less Inv-loop μ-loop
 loop-less c = omega (arith, end (c .before .before .before .before .before .before), c .behind .ensures .at, c .before .before .before .before .before .before .size .ensures)

@@ -2,6 +2,7 @@
 -- Assumes nothing.
 use borrow.Author.Needs.{needs}
 use Rattle.format.specs.Bytes.{decimal}
+use Rattle.format.proofs.Decimal.{length-decimal}
 use Rattle.numbers.specs.Carried.{pair}
 use Rattle.numbers.proofs.Laws.{written}
 use Rattle.numbers.proofs.write_pair.Statement.{statement}
@@ -25,7 +26,7 @@ returns c =
     let second = c .before .before in
     let first = second .before .before .before .before in
     let g = first .before .before .before .args in
-    written (g .out .now) (g .start) 8 (g .t) (decimal 8 (g .r)) 8 (search needs) (search needs) _ _ (first .write .ensures) (second .write2 .ensures)
+    written (g .out .now) (g .start) 8 (decimal 8 (g .t)) (length-decimal 8 (g .t)) (decimal 8 (g .r)) 8 (search needs) (search needs) _ _ (first .write .ensures) (second .write2 .ensures)
 
 pub write-pair-spec : {M : Type 1} → statement M
 write-pair-spec =

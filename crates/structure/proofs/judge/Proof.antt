@@ -60,14 +60,14 @@ more-requires c κs =
     let g = c .before .before .before .before .before .before .before .before .before .args in
     let l = c .before .before .before .before .before .before .before .loop in
     let b = l .inv .bounded in (
-      (b .place, b .within, omega (arith, b .few, b .inside)),
+      (b .place, b .kept, omega (arith, b .few, b .inside)),
       (c .before .before .row-of .ensures, is-typed (g .file .now) (g .asked) (g .version) (l .s) (l .m) _ (l .inv) (c .before .before .before .before .before .if1 .taken) (c .before .before .before .before .text-end .result) (c .before .before .before .before .text-end .ensures .0) _ refl (c .before .before .row-of .result) (c .before .before .row-of .ensures) (c .before .shaped .result) (c .before .shaped .ensures) ∙ not-false _ (c .if2 .left)),
     )
 
 behind-requires : tie.Need-behind-requires Inv-loop μ-loop
 behind-requires c κs =
     let b = c .before .before .before .before .before .before .before .before .loop .inv .bounded in
-    (omega (arith, b .inside), b .within, b .few)
+    (omega (arith, b .inside), b .kept, b .few)
 
 loop-less : tie.Need-loop-less Inv-loop μ-loop
 loop-less c = omega (arith, c .behind .ensures .at)

@@ -67,7 +67,7 @@ returns-2 c = c .before .before .before .before .before .before .before .before 
 behind-requires : tie.Need-behind-requires Inv-loop μ-loop
 behind-requires c κs =
     let b = c .before .before .before .before .before .before .before .before .loop .inv .bounded in
-    (omega (arith, b .inside), b .within, b .few)
+    (omega (arith, b .inside), b .kept, b .few)
 
 loop-less : tie.Need-loop-less Inv-loop μ-loop
 loop-less c =

@@ -2,7 +2,9 @@
 -- Assumes nothing.
 use native.Mathlib.Omega.{arith}
 use borrow.Author.Needs.{needs}
+use Rattle.format.specs.Bytes.{decimal}
 use Rattle.format.specs.Fields.{fieldOf}
+use Rattle.format.proofs.Decimal.{length-decimal}
 use Rattle.numbers.specs.Carried.{pair}
 use Rattle.numbers.proofs.Laws.{compared}
 use Rattle.numbers.proofs.Numbers.stand_in.Statement.{statement}
@@ -23,8 +25,8 @@ stands-requires c κs =
 enum-known-self-2 : tie.Need-enum-known-self-2
 enum-known-self-2 c = search needs
 
-pair-stands-requires : tie.Need-pair-stands-requires
-pair-stands-requires c κs =
+words-stand-requires : tie.Need-words-stand-requires
+words-stand-requires c κs =
     let at = c .before in
     let h = rw (at .self2 .given .1) at (at .before .before .before .pre) in
     omega (arith, h)
@@ -38,8 +40,8 @@ stands-requires-2 c κs =
     let h = rw (at .self3 .given .1) at (at .before .before .before .pre) in
     omega (arith, h)
 
-pair-stands-requires-2 : tie.Need-pair-stands-requires-2
-pair-stands-requires-2 c κs =
+pair-stands-requires : tie.Need-pair-stands-requires
+pair-stands-requires c κs =
     let at = c .before .before in
     let h = rw (at .self3 .given .1) at (at .before .before .before .pre) in
     omega (arith, h)
@@ -52,7 +54,7 @@ returns-2 : tie.Need-returns-2
 returns-2 c = rw (c .before .before .self .given .1) (c .stands .ensures)
 
 returns-3 : tie.Need-returns-3
-returns-3 c = rw (c .before .before .self2 .given .1) (c .pair-stands .ensures)
+returns-3 c = rw (c .before .before .self2 .given .1) (c .words-stand .ensures)
 
 returns-4 : tie.Need-returns-4
 returns-4 c =
@@ -61,8 +63,8 @@ returns-4 c =
     let entry = at .before .before .before in
     let h = rw (at .self3 .given .1) at (entry .pre) in
     rw (at .self3 .given .1)
-    (compared (entry .args .record .now) 4 5 (g .0) (pair (g .1 .0) (g .1 .1 .0)) 16 (omega arith) (omega (arith, h)) _ _
-    (c .before .stands2 .ensures) (c .pair-stands2 .ensures))
+    (compared (entry .args .record .now) 4 5 (decimal 5 (g .0)) (length-decimal 5 (g .0)) (pair (g .1 .0) (g .1 .1 .0)) 16 (omega arith) (omega (arith, h)) _ _
+    (c .before .stands2 .ensures) (c .pair-stands .ensures))
 
 pub stand-in-spec : {M : Type 1} → statement M
 stand-in-spec =
@@ -72,10 +74,10 @@ stand-in-spec =
     enum-known-self
     stands-requires
     enum-known-self-2
-    pair-stands-requires
+    words-stand-requires
     enum-known-self-3
     stands-requires-2
-    pair-stands-requires-2
+    pair-stands-requires
     returns
     returns-2
     returns-3

@@ -2,6 +2,8 @@
 -- Assumes nothing.
 use native.Mathlib.Omega.{arith}
 use borrow.Author.Needs.{needs}
+use Rattle.format.specs.Bytes.{decimal}
+use Rattle.format.proofs.Decimal.{length-decimal}
 use Rattle.numbers.specs.Carried.{pair}
 use Rattle.numbers.proofs.Laws.{over-nothing, written}
 use Rattle.numbers.proofs.Numbers.write_into.Statement.{statement}
@@ -22,8 +24,8 @@ write-requires c κs =
 enum-known-self-2 : tie.Need-enum-known-self-2
 enum-known-self-2 c = search needs
 
-write-pair-requires : tie.Need-write-pair-requires
-write-pair-requires c κs =
+write-words-requires : tie.Need-write-words-requires
+write-words-requires c κs =
     let at = c .before .before in
     let h = rw (at .self2 .given .1) at (at .before .before .before .pre) in
     omega (arith, h)
@@ -37,8 +39,8 @@ write-requires-2 c κs =
     let h = rw (at .self3 .given .1) at (at .before .before .before .pre) in
     omega (arith, h)
 
-write-pair-requires-2 : tie.Need-write-pair-requires-2
-write-pair-requires-2 c κs =
+write-pair-requires : tie.Need-write-pair-requires
+write-pair-requires c κs =
     let at = c .before .before .before .before .before .before in
     let h = rw (at .self3 .given .1) at (at .before .before .before .pre) in
     omega (arith, h)
@@ -56,7 +58,7 @@ same-length-2 : tie.Need-same-length-2
 same-length-2 c = search needs
 
 returns-3 : tie.Need-returns-3
-returns-3 c = rw (c .before .before .before .before .before .self2 .given .1) (c .before .before .write-pair .ensures)
+returns-3 c = rw (c .before .before .before .before .before .self2 .given .1) (c .before .before .write-words .ensures)
 
 same-length-3 : tie.Need-same-length-3
 same-length-3 c = search needs
@@ -70,8 +72,8 @@ returns-4 c =
     let entry = at .before .before .before in
     let h = rw (at .self3 .given .1) at (entry .pre) in
     rw (at .self3 .given .1)
-    (written (entry .args .out .now) 4 5 (g .0) (pair (g .1 .0) (g .1 .1 .0)) 16 (omega arith) (omega (arith, h)) _ _
-    (first .write2 .ensures) (second .write-pair2 .ensures))
+    (written (entry .args .out .now) 4 5 (decimal 5 (g .0)) (length-decimal 5 (g .0)) (pair (g .1 .0) (g .1 .1 .0)) 16 (omega arith) (omega (arith, h)) _ _
+    (first .write2 .ensures) (second .write-pair .ensures))
 
 pub write-into-spec : {M : Type 1} → statement M
 write-into-spec =
@@ -81,10 +83,10 @@ write-into-spec =
     enum-known-self
     write-requires
     enum-known-self-2
-    write-pair-requires
+    write-words-requires
     enum-known-self-3
     write-requires-2
-    write-pair-requires-2
+    write-pair-requires
     returns
     same-length
     returns-2

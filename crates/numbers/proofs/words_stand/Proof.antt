@@ -1,0 +1,24 @@
+-- `numbers::words_stand` meets its contract: compared one by one, the two are compared as one.
+-- Assumes nothing.
+use Rattle.text.specs.Words.{bytesOf}
+use Rattle.text.proofs.Words.{length-bytes}
+use Rattle.numbers.specs.Carried.{words}
+use Rattle.numbers.proofs.Laws.{compared}
+use borrow.Author.Needs.{needs}
+use Rattle.numbers.proofs.words_stand.Statement.{statement}
+use Rattle.numbers.proofs.words_stand.Tie as tie
+
+word-stands-requires : tie.Need-word-stands-requires
+word-stands-requires c κs = search needs
+
+word-stands-requires-2 : tie.Need-word-stands-requires-2
+word-stands-requires-2 c κs = search needs
+
+returns : tie.Need-returns
+unfolding words
+returns c =
+    let g = c .before .before .before .args in
+    compared (g .record .now) 4 8 (bytesOf 8 (g .t)) (length-bytes 8 (g .t)) (bytesOf 8 (g .r)) 8 (search needs) (search needs) _ _ (c .before .word-stands .ensures) (c .word-stands2 .ensures)
+
+pub words-stand-spec : {M : Type 1} → statement M
+words-stand-spec = tie.close (tie.spec word-stands-requires word-stands-requires-2 returns)

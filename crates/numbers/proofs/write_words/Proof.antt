@@ -1,0 +1,30 @@
+-- `numbers::write_words` meets its contract: written one by one, the two are written as one.
+-- Assumes nothing.
+use Rattle.text.specs.Words.{bytesOf}
+use Rattle.text.proofs.Words.{length-bytes}
+use Rattle.numbers.specs.Carried.{words}
+use Rattle.numbers.proofs.Laws.{written}
+use borrow.Author.Needs.{needs}
+use Rattle.numbers.proofs.write_words.Statement.{statement}
+use Rattle.numbers.proofs.write_words.Tie as tie
+
+write-word-requires : tie.Need-write-word-requires
+write-word-requires c κs = search needs
+
+write-word-requires-2 : tie.Need-write-word-requires-2
+write-word-requires-2 c κs = search needs
+
+same-length : tie.Need-same-length
+same-length c = search needs
+
+returns : tie.Need-returns
+unfolding words
+returns c =
+    let second = c .before .before in
+    let first = second .before .before .before .before in
+    let g = first .before .before .before .args in
+    written (g .out .now) 4 8 (bytesOf 8 (g .t)) (length-bytes 8 (g .t)) (bytesOf 8 (g .r)) 8 (search needs) (search needs) _ _ (first .write-word .ensures) (second .write-word2 .ensures)
+
+pub write-words-spec : {M : Type 1} → statement M
+write-words-spec =
+    tie.close (tie.spec write-word-requires write-word-requires-2 same-length returns)
