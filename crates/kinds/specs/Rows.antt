@@ -11,6 +11,7 @@ use Rattle.format.specs.Cwr22.{rows22}
 use Rattle.format.specs.Checks.{code}
 use Rattle.format.specs.Stages.{Spot, spot, spots, begins, when}
 use Rattle.kinds.specs.declared.Row.{Row}
+use Rattle.kinds.specs.declared.Shape.{Shape}
 
 -- ---- a row of the format as the code has it
 
@@ -89,3 +90,6 @@ column stage rank rest = when (ltb 0 stage) (spot stage rank) rest
 
 abbrev pub spotsOf : Row → List Spot
 spotsOf r = column (r .first) (r .rank) (column (r .second) (r .rank) (column (r .third) (r .rank) []))
+
+abbrev pub shapeOf : Row → Shape
+shapeOf r = record { place = r .place; length = r .length }

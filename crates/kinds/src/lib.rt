@@ -3,10 +3,10 @@
 ghost use mathlib.Core.Path.{_≡_};
 ghost use mathlib.Core.Bool.{true};
 ghost use mathlib.Core.List.{[], _∷_};
-ghost use Prim.Native.Nat.{_<_};
-ghost use lib.ListN.{take};
+ghost use Prim.Native.Nat.{_<_, _≤_};
+ghost use lib.ListN.{length, take};
 ghost use Rattle.format.specs.Bytes.{Bytes, sameBytes};
-ghost use Rattle.kinds.specs.Rows.{noRow, kinds, typeOf, firstOf, rowFor};
+ghost use Rattle.kinds.specs.Rows.{noRow, kinds, shapeOf, typeOf, firstOf, rowFor};
 
 // A record type. Flat: with an enum or a struct inside, the check of the table takes minutes.
 pub struct Row {
@@ -31,6 +31,29 @@ pub struct Row {
 }
 
 impl Row {
+    pub fn size(self) -> usize
+        ensures { λ r. ⌜ r ≡ self .length ⌝ }
+    {
+        self.length as usize
+    }
+
+    fn shape(self) -> Shape
+        ensures { λ r. ⌜ r ≡ shapeOf self ⌝ }
+    {
+        Shape {
+            place: self.place,
+            length: self.length,
+        }
+    }
+}
+
+// Of a row what a walk goes by.
+pub struct Shape {
+    pub place: u8,
+    pub length: u16,
+}
+
+impl Shape {
     pub fn size(self) -> usize
         ensures { λ r. ⌜ r ≡ self .length ⌝ }
     {
@@ -207,18 +230,17 @@ pub fn row_of(record: &[u8]) -> Row
     }
 }
 
-// The row of a record whose row was hinted at: that row where it is of the record's type. For walks, which keep the table.
-pub fn confirmed(hinted: Row, record: &[u8]) -> Row
+// The shape of a record whose row was hinted at: of that row where it is of the record's type. For walks, which keep the table. (Not the
+// row: the compiler would build it in memory.)
+pub fn confirmed(hinted: Row, record: &[u8]) -> Shape
+    requires { ⌜ 3 ≤ length (now «record») ⌝ }
     requires { ⌜ ((t : Bytes) → sameBytes (typeOf hinted) t ≡ true → hinted ≡ rowFor t) ⌝ }
-    ensures { λ r. ⌜ r ≡ rowFor (take 3 (now («record» .entry))) ⌝ }
+    ensures { λ r. ⌜ r ≡ shapeOf (rowFor (take 3 (now («record» .entry)))) ⌝ }
 {
-    if record.len() < 3 {
-        return row_of(record);
-    }
     if is_type(hinted, record[0], record[1], record[2]) {
-        return hinted;
+        return hinted.shape();
     }
-    row_of(record)
+    row_of(record).shape()
 }
 
 // In the order of the format's rows.

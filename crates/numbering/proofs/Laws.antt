@@ -15,8 +15,9 @@ use Rattle.format.specs.Checks.{Counts, zeros, count, expected, cut, cls, class
 use Rattle.format.specs.Numbering.{number, held, recordsIn, numberedFile}
 use Rattle.format.proofs.Slots.{overwritten}
 use Rattle.format.proofs.Passes.{Along}
-use Rattle.kinds.specs.Rows.{rowFor}
+use Rattle.kinds.specs.Rows.{rowFor, shapeOf}
 use Rattle.kinds.specs.declared.Row.{Row}
+use Rattle.kinds.specs.declared.Shape.{Shape}
 use Rattle.lines.specs.Scan.{textLength}
 use Rattle.numbers.specs.Tally.{tally, Kept}
 use Rattle.numbers.specs.declared.Counts.{Counts as CodeCounts}
@@ -109,22 +110,31 @@ filling-end f old out s F h =
 pub three-bytes : (f old out : Bytes) (s : Stand) → Filling f old out s → s .at < length f → s .at + 3 ≤ length f
 three-bytes f old out s F here = omega (arith, here-three f (s .at) here (F .fine) (F .all), fits f (s .at) here (F .fine))
 
-module _ (f old out : Bytes) (s : Stand) (F : Filling f old out s) (here : s .at < length f) (row : Row) (its : row ≡ rowFor (take 3 (drop (s .at) f))) where
-  pub size : row .length ≡ textLength (drop (s .at) f)
-  size = row-size f (s .at) here (F .fine) (F .all) row its
+module _ (f old out : Bytes) (s : Stand) (F : Filling f old out s) (here : s .at < length f) (shape : Shape) (its : shape ≡ shapeOf (rowFor (take 3 (drop (s .at) f)))) where
+  abbrev row : Row
+  row = rowFor (take 3 (drop (s .at) f))
 
-  pub ends : s .at + row .length + 2 ≤ length f
+  placed : shape .place ≡ row .place
+  placed = ap (λ (x : Shape). x .place) its
+
+  pub size : shape .length ≡ textLength (drop (s .at) f)
+  size = ap (λ (x : Shape). x .length) its ∙ row-size f (s .at) here (F .fine) (F .all) row refl
+
+  pub ends : s .at + shape .length + 2 ≤ length f
   ends = rw size (fits f (s .at) here (F .fine))
 
-  pub room : at (classAt (row .place)) + width (classAt (row .place)) ≤ row .length
-  room = omega (arith, row-numbers f (s .at) here (F .fine) (F .all) row its, long f (s .at) here (F .fine), size)
+  numbers-fit : at (classAt (shape .place)) + width (classAt (shape .place)) ≤ length (recordAt f (s .at))
+  numbers-fit = rw placed (row-numbers f (s .at) here (F .fine) (F .all) row refl)
 
-  class-here : classAt (row .place) ≡ cls cwr22 (recordAt f (s .at))
-  class-here = row-is f (s .at) here (F .fine) (F .all) row its
+  pub room : at (classAt (shape .place)) + width (classAt (shape .place)) ≤ shape .length
+  room = omega (arith, numbers-fit, long f (s .at) here (F .fine), size)
+
+  class-here : classAt (shape .place) ≡ cls cwr22 (recordAt f (s .at))
+  class-here = ap classAt placed ∙ row-is f (s .at) here (F .fine) (F .all) row refl
 
   -- the bytes written, and behind them the numbered rest
-  module _ (e : ℕ) (q : e ≡ s .at + row .length + 2) (ys : Bytes)
-      (w : ys ≡ take (at (classAt (row .place))) (take (e - s .at) (drop (s .at) f)) ++ expected (tally (s .counts)) (classAt (row .place)) ++ drop (at (classAt (row .place)) + width (classAt (row .place))) (take (e - s .at) (drop (s .at) f))) where
+  module _ (e : ℕ) (q : e ≡ s .at + shape .length + 2) (ys : Bytes)
+      (w : ys ≡ take (at (classAt (shape .place))) (take (e - s .at) (drop (s .at) f)) ++ expected (tally (s .counts)) (classAt (shape .place)) ++ drop (at (classAt (shape .place)) + width (classAt (shape .place))) (take (e - s .at) (drop (s .at) f))) where
     next-here : e ≡ s .at + textLength (drop (s .at) f) + 2
     next-here = q ∙ ap (λ (n : ℕ). s .at + n + 2) size
 
@@ -133,20 +143,20 @@ module _ (f old out : Bytes) (s : Stand) (F : Filling f old out s) (here : s .at
         let n : e - s .at ≡ textLength (drop (s .at) f) + 2 = omega (arith, next-here) in
         let whole = rw (n, line-here f (s .at) here (F .fine)) at w in
         whole
-        ∙ line-numbered (recordAt f (s .at)) (classAt (row .place)) (expected (tally (s .counts)) (classAt (row .place))) (row-numbers f (s .at) here (F .fine) (F .all) row its)
+        ∙ line-numbered (recordAt f (s .at)) (classAt (shape .place)) (expected (tally (s .counts)) (classAt (shape .place))) numbers-fit
         ∙ rw class-here
 
-    owed-on : (take (s .at) out ++ ys) ++ unlines (number (count (tally (s .counts)) (classAt (row .place))) (map (held cwr22) (recordsIn (lines (drop e f))))) ≡ numberedFile cwr22 f
+    owed-on : (take (s .at) out ++ ys) ++ unlines (number (count (tally (s .counts)) (classAt (shape .place))) (map (held cwr22) (recordsIn (lines (drop e f))))) ≡ numberedFile cwr22 f
     owed-on =
         rw (class-here, next-here)
         (owed-turn (take (s .at) out) ys (tally (s .counts)) (recordAt f (s .at)) (recordsIn (lines (drop (s .at + textLength (drop (s .at) f) + 2) f))) (numberedFile cwr22 f) line
         (rw (records-here f (s .at) here (F .fine)) at (F .owed)))
 
-    pub filling-on : length f ≤ length out → length ys ≡ e - s .at → (next : Stand) → Next s (row .length) (row .place) next
+    pub filling-on : length f ≤ length out → length ys ≡ e - s .at → (next : Stand) → Next s (shape .length) (shape .place) next
         → Filling f old (putMid (s .at) (e - s .at) out ys) next
     filling-on g l next x =
         record {
-          bounded = bounded-on f true s row next (F .bounded) (row-six (drop (s .at) f) row its) ends x;
+          bounded = bounded-on f s (shape .length) (shape .place) next (F .bounded) (rw placed (row-six (drop (s .at) f) row refl)) ends x;
           fine = rw (there, next-here) (fine-behind f (s .at) here (F .fine));
           all = rw (there, next-here) (all-behind f (s .at) here (F .fine) (F .all));
           same = length-written out ys (s .at) e inside fit l ∙ F .same;

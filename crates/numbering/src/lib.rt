@@ -42,10 +42,10 @@ fn fill(file: &[u8], out: &mut [u8])
         let at = s.at;
         let counts = s.counts;
         let k = kinds::hint(file[at], file[at + 1], file[at + 2]);
-        let row = kinds::confirmed(rows[k], &file[at..]);
-        let end = at + row.size() + 2;
-        number_line(&file[at..end], &mut out[at..end], row.place, counts);
-        s = structure::behind(s, row.length, row.place);
+        let shape = kinds::confirmed(rows[k], &file[at..]);
+        let end = at + shape.size() + 2;
+        number_line(&file[at..end], &mut out[at..end], shape.place, counts);
+        s = structure::behind(s, shape.length, shape.place);
     }
 }
 

@@ -75,7 +75,7 @@ module _ (f : Bytes) (asked version : Bool) (s : Stand) (m : Met) (answer : Answ
         unfolding behind
         judging-on next x more k =
             record {
-              bounded = bounded-on f asked s row next (J .bounded) (row-six r row its) (rw size (fits f (s .at) here (J .fine))) x;
+              bounded = bounded-on f s (row .length) (row .place) next (J .bounded) (row-six r row its) (rw size (fits f (s .at) here (J .fine))) x;
               fine = rw place (fine-behind f (s .at) here (J .fine));
               rest =
                   rw (k, x .place, x .counts, row-class r row its, place)

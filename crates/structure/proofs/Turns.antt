@@ -56,22 +56,22 @@ module _ (t : Bytes) (row : Row) (its : row ≡ rowFor (take 3 t)) where
         ∙ rest-turn cwr22 asked version p n r (drop (row .length + 2) t) (every-text r x) (cut-typed q h k) (rw c at s) (rw c at m)
         ∙ rw (← c)
 
-module _ (f : Bytes) (asked : Bool) (s : Stand) (row : Row) (next : Stand) where
-  -- the stand behind the record is bounded as the one before it was
-  pub bounded-on : Bounded f s → row .place ≤ 6 → s .at + row .length + 2 ≤ length f → Next s (row .length) (row .place) next → Bounded f next
-  bounded-on b h k x =
-      record {
-        inside = rw (x .at) k;
-        place = rw (x .place) h;
-        kept = x .kept;
-        few = omega (arith, b .few, x .at, x .records);
-      }
+-- the stand behind a record is bounded as the one before it was
+pub bounded-on : (f : Bytes) (s : Stand) (l p : ℕ) (next : Stand) → Bounded f s → p ≤ 6 → s .at + l + 2 ≤ length f → Next s l p next → Bounded f next
+bounded-on f s l p next b h k x =
+    record {
+      inside = rw (x .at) k;
+      place = rw (x .place) h;
+      kept = x .kept;
+      few = omega (arith, b .few, x .at, x .records);
+    }
 
+module _ (f : Bytes) (asked : Bool) (s : Stand) (row : Row) (next : Stand) where
   pub stood-on : Stood f asked s → RightAt f asked s row → Roomy row → row ≡ rowFor (take 3 (drop (s .at) f))
       → Next s (row .length) (row .place) next → Stood f asked next
   stood-on d r m its x =
       record {
-        bounded = bounded-on (d .bounded) (omega (arith, m .place)) (r .fits) x;
+        bounded = bounded-on f s (row .length) (row .place) next (d .bounded) (omega (arith, m .place)) (r .fits) x;
         rest = λ version. rw (x .place, x .counts, x .at) (sym (go version) ∙ d .rest version);
       }
     where

@@ -2,10 +2,10 @@
 use Prim.Native.Nat.{ℕ, _+_, _-_, _≤_}
 use native.Mathlib.Omega.{arith}
 use mathlib.Core.Path.{_≡_, sym, ap, _∙_}
-use lib.ListN.{length, take, drop}
+use lib.ListN.{length, take, drop, length-drop}
 use borrow.Rule.Slice.PartMut.{mid-len}
 use Rattle.format.specs.Bytes.{Bytes}
-use Rattle.kinds.specs.Rows.{rowFor}
+use Rattle.kinds.specs.Rows.{rowFor, shapeOf}
 use Rattle.kinds.proofs.Laws.{hinted}
 use Rattle.structure.proofs.Rows.{in-table}
 use Rattle.numbering.proofs.Laws.{to-end, Filling, filling-start, filling-end, filling-on, three-bytes, ends, room}
@@ -19,9 +19,9 @@ Inv-loop file out₀ rows s₀ out s = Filling file out₀ out s
 abbrev μ-loop : tie.MeasureT-loop
 μ-loop file out₀ rows s₀ out s = length file - s .at
 
--- the row of the record that stands there, and the end of its line
-its : (c : tie.After-size Inv-loop μ-loop) → c .before .confirmed .result ≡ rowFor (take 3 (drop (c .before .before .before .before .before .before .before .before .before .before .before .loop .s .at) (c .before .before .before .before .before .before .before .before .before .before .before .before .before .before .before .before .args .file .now)))
-its c = c .before .confirmed .ensures ∙ ap (λ (r : Bytes). rowFor (take 3 r)) (to-end (c .before .before .before .before .before .before .before .before .before .before .before .before .before .before .before .before .args .file .now) (c .before .before .before .before .before .before .before .before .before .before .before .loop .s .at))
+-- the shape of the record that stands there, and the end of its line
+its : (c : tie.After-size Inv-loop μ-loop) → c .before .confirmed .result ≡ shapeOf (rowFor (take 3 (drop (c .before .before .before .before .before .before .before .before .before .before .before .loop .s .at) (c .before .before .before .before .before .before .before .before .before .before .before .before .before .before .before .before .args .file .now))))
+its c = c .before .confirmed .ensures ∙ ap (λ (r : Bytes). shapeOf (rowFor (take 3 r))) (to-end (c .before .before .before .before .before .before .before .before .before .before .before .before .before .before .before .before .args .file .now) (c .before .before .before .before .before .before .before .before .before .before .before .loop .s .at))
 
 end : (c : tie.After-size Inv-loop μ-loop) → c .before .before .before .before .before .before .before .before .before .before .before .loop .s .at + c .size .result + 2 ≤ length (c .before .before .before .before .before .before .before .before .before .before .before .before .before .before .before .before .args .file .now)
 end c = rw (c .size .ensures) (ends (c .before .before .before .before .before .before .before .before .before .before .before .before .before .before .before .before .args .file .now) (c .before .before .before .before .before .before .before .before .before .before .before .before .before .before .before .before .args .out .now) (c .before .before .before .before .before .before .before .before .before .before .before .loop .out) (c .before .before .before .before .before .before .before .before .before .before .before .loop .s) (c .before .before .before .before .before .before .before .before .before .before .before .loop .inv) (c .before .before .before .before .before .before .before .before .before .if1 .taken) (c .before .confirmed .result) (its c))
@@ -72,7 +72,11 @@ part-confirmed-end c = search needs
 
 confirmed-requires : tie.Need-confirmed-requires Inv-loop μ-loop
 confirmed-requires c κs =
-    λ t e. hinted (c .before .before .before .before .before .before .before .before .before .before .before .table .result) (c .before .before .before .before .before .before .before .before .before .before .before .table .ensures) t (c .before .before .hint .result) (in-table (c .before .before .before .before .before .before .before .before .before .before .before .table .result) (c .before .before .before .before .before .before .before .before .before .before .before .table .ensures) (c .before .before .hint .result) (c .before .before .hint .ensures)) _ e
+    let g = c .before .before .before .before .before .before .before .before .before .before .before .before .before .before in
+    let l = c .before .before .before .before .before .before .before .before .before .loop in
+    let three = three-bytes (g .args .file .now) (g .args .out .now) (l .out) (l .s) (l .inv) (c .before .before .before .before .before .before .before .if1 .taken) in
+    (rw (to-end (g .args .file .now) (l .s .at), length-drop (l .s .at) (g .args .file .now)) (omega (arith, three)),
+    λ t e. hinted (c .before .before .before .before .before .before .before .before .before .before .before .table .result) (c .before .before .before .before .before .before .before .before .before .before .before .table .ensures) t (c .before .before .hint .result) (in-table (c .before .before .before .before .before .before .before .before .before .before .before .table .result) (c .before .before .before .before .before .before .before .before .before .before .before .table .ensures) (c .before .before .hint .result) (c .before .before .hint .ensures)) _ e)
 
 size-requires : tie.Need-size-requires Inv-loop μ-loop
 size-requires c κs = search needs
