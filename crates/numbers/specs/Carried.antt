@@ -8,7 +8,7 @@ use Rattle.format.specs.Table.{Class, at, width}
 use Rattle.format.specs.Checks.{Counts, expected}
 use Rattle.text.specs.Words.{bytesOf}
 use Rattle.numbers.specs.declared.Numbers.{Numbers}
-use Rattle.numbers.specs.declared.Numbers.the-variants.{Nothing, Group, Prefix, Totals}
+use Rattle.numbers.specs.declared.Numbers.the-variants.{Nothing, Group, Prefix, Closing, Totals}
 
 -- two numbers beside one another, and two words
 unfoldable pub pair : ℕ → ℕ → Bytes
@@ -21,6 +21,7 @@ abbrev pub digitsOf : Numbers → Bytes
 digitsOf Nothing = []
 digitsOf (Group g) = decimal 5 g
 digitsOf (Prefix t r) = words t r
+digitsOf (Closing g t r) = decimal 5 g ++ words t r
 digitsOf (Totals g t r) = decimal 5 g ++ pair t r
 
 -- where they start, counted from 1, and how many bytes they take
@@ -28,12 +29,14 @@ abbrev pub startOf : Numbers → ℕ
 startOf Nothing = 4
 startOf (Group g) = 7
 startOf (Prefix t r) = 4
+startOf (Closing g t r) = 4
 startOf (Totals g t r) = 4
 
 abbrev pub sizeOf : Numbers → ℕ
 sizeOf Nothing = 0
 sizeOf (Group g) = 5
 sizeOf (Prefix t r) = 8 + 8
+sizeOf (Closing g t r) = 5 + (8 + 8)
 sizeOf (Totals g t r) = 5 + (8 + 8)
 
 -- they are what the format expects of a record of the class, and stand where it has them

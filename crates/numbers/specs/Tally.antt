@@ -1,5 +1,5 @@
 -- The code's counts as the format has them, and what a walk keeps: bounds, so that no counter wraps, and the digits of counts.
-use Prim.Native.Nat.{ℕ, pred, _^_, _<_, _≤_}
+use Prim.Native.Nat.{ℕ, pred, _+_, _^_, _<_, _≤_}
 use mathlib.Core.Path.{_≡_}
 use Rattle.format.specs.Bytes.{decimal}
 use Rattle.format.specs.Checks.{Counts as FormatCounts}
@@ -23,11 +23,11 @@ Within n =
     (n .groups ≤ n .records) × (n .transactions ≤ n .records) × (n .«in_group» ≤ n .records) × (n .«group_records» ≤ n .records)
     × (n .«in_transaction» ≤ n .records)
 
--- the words are made of the digits that the next header and detail carry
+-- the words are made of the digits that the next header, detail and GRT carry
 abbrev pub Written : Counts → Type 0
 Written n =
     (n .«header_word» ≡ wordOf (decimal 8 (n .«in_group»))) × (n .«detail_word» ≡ wordOf (decimal 8 (pred (n .«in_group»))))
-    × (n .«record_word» ≡ wordOf (decimal 8 (n .«in_transaction»)))
+    × (n .«record_word» ≡ wordOf (decimal 8 (n .«in_transaction»))) × (n .«closing_word» ≡ wordOf (decimal 8 (n .«group_records» + 1)))
 
 abbrev pub Kept : Counts → Type 0
 Kept n = Within n × Written n

@@ -29,17 +29,20 @@ pub struct Counts {
     pub in_transaction: u64,
     // All records.
     pub records: u64,
-    // As words, so that nearly every record costs no division: the digits of in_group, which the next header carries, those of one
-    // less, which its details carry, and those of in_transaction.
+    // As words, so that nearly no record costs a division: the digits of in_group, which the next header carries, those of one less,
+    // which a detail carries, those of in_transaction, and those of one more than group_records, which GRT carries.
     pub header_word: u64,
     pub detail_word: u64,
     pub record_word: u64,
+    pub closing_word: u64,
 }
 
-// The words of the eight digits of 0 and 1.
+// The words of the eight digits of 0, 1 and 2.
 const ZERO: u64 = 0x3030303030303030;
 
 const ONE: u64 = 0x3130303030303030;
+
+const TWO: u64 = 0x3230303030303030;
 
 // The numbers that a record carries in its number positions.
 pub enum Numbers {
@@ -49,7 +52,9 @@ pub enum Numbers {
     Group(u64),
     // A header or detail: the transaction in its group and the record in its transaction, as words.
     Prefix(u64, u64),
-    // GRT and TRL: the group or how many there are, transactions, records.
+    // GRT: the group; transactions and records, as words.
+    Closing(u64, u64, u64),
+    // TRL: groups, transactions, records.
     Totals(u64, u64, u64),
 }
 
@@ -68,6 +73,7 @@ impl Counts {
             header_word: ZERO,
             detail_word: ZERO,
             record_word: ZERO,
+            closing_word: ONE,
         }
     }
 
@@ -78,6 +84,7 @@ impl Counts {
         ensures { λ r. ⌜ Kept r × (r .records ≡ self .records + 1) ⌝ }
     {
         let next = self.grown(place == HEAD);
+        let closing = text::next_eight(self.closing_word, self.group_records + 1);
         self.records += 1;
         match place {
             GRH => {
@@ -88,6 +95,7 @@ impl Counts {
                 self.header_word = ZERO;
                 self.detail_word = ZERO;
                 self.record_word = ZERO;
+                self.closing_word = TWO;
                 self
             }
             HEAD => {
@@ -98,12 +106,14 @@ impl Counts {
                 self.detail_word = self.header_word;
                 self.header_word = next;
                 self.record_word = ONE;
+                self.closing_word = closing;
                 self
             }
             DETAIL => {
                 self.group_records += 1;
                 self.in_transaction += 1;
                 self.record_word = next;
+                self.closing_word = closing;
                 self
             }
             GRT => {
@@ -113,6 +123,7 @@ impl Counts {
                 self.header_word = ZERO;
                 self.detail_word = ZERO;
                 self.record_word = ZERO;
+                self.closing_word = ONE;
                 self
             }
             _ => self,
@@ -140,7 +151,7 @@ impl Counts {
             GRH => Numbers::Group(self.groups + 1),
             HEAD => Numbers::Prefix(self.header_word, ZERO),
             DETAIL => Numbers::Prefix(self.detail_word, self.record_word),
-            GRT => Numbers::Totals(self.groups, self.in_group, self.group_records + 1),
+            GRT => Numbers::Closing(self.groups, self.header_word, self.closing_word),
             TRL => Numbers::Totals(self.groups, self.transactions, self.records + 1),
             _ => Numbers::Nothing,
         }
@@ -174,7 +185,8 @@ impl Numbers {
         match self {
             Numbers::Nothing => true,
             Numbers::Group(g) => stands(g, record, 7, 5),
-            Numbers::Prefix(t, r) => words_stand(t, r, record),
+            Numbers::Prefix(t, r) => words_stand(t, r, record, 4),
+            Numbers::Closing(g, t, r) => stands(g, record, 4, 5) & words_stand(t, r, record, 9),
             Numbers::Totals(g, t, r) => stands(g, record, 4, 5) & pair_stands(t, r, record, 9),
         }
     }
@@ -187,7 +199,11 @@ impl Numbers {
         match self {
             Numbers::Nothing => {}
             Numbers::Group(g) => write(g, out, 7, 5),
-            Numbers::Prefix(t, r) => write_words(t, r, out),
+            Numbers::Prefix(t, r) => write_words(t, r, out, 4),
+            Numbers::Closing(g, t, r) => {
+                write(g, out, 4, 5);
+                write_words(t, r, out, 9)
+            }
             Numbers::Totals(g, t, r) => {
                 write(g, out, 4, 5);
                 write_pair(t, r, out, 9)
@@ -236,7 +252,7 @@ fn write_pair(t: u64, r: u64, out: &mut [u8], start: usize)
     write(r, out, start + 8, 8);
 }
 
-// The same as words, where a header or detail has them.
+// The same as words.
 fn word_stands(x: u64, record: &[u8], start: usize) -> bool
     requires { ⌜ (1 ≤ start) × (start - 1 + 8 ≤ length (now «record»)) ⌝ }
     ensures { λ r. ⌜ r ≡ sameBytes (fieldOf start 8 (now («record» .entry))) (bytesOf 8 x) ⌝ }
@@ -244,11 +260,11 @@ fn word_stands(x: u64, record: &[u8], start: usize) -> bool
     text::is_word(x, text::field(record, start, 8))
 }
 
-fn words_stand(t: u64, r: u64, record: &[u8]) -> bool
-    requires { ⌜ 3 + (8 + 8) ≤ length (now «record») ⌝ }
-    ensures { λ s. ⌜ s ≡ sameBytes (fieldOf 4 (8 + 8) (now («record» .entry))) (words t r) ⌝ }
+fn words_stand(t: u64, r: u64, record: &[u8], start: usize) -> bool
+    requires { ⌜ (1 ≤ start) × (start - 1 + (8 + 8) ≤ length (now «record»)) ⌝ }
+    ensures { λ s. ⌜ s ≡ sameBytes (fieldOf start (8 + 8) (now («record» .entry))) (words t r) ⌝ }
 {
-    word_stands(t, record, 4) & word_stands(r, record, 12)
+    word_stands(t, record, start) & word_stands(r, record, start + 8)
 }
 
 fn write_word(x: u64, out: &mut [u8], start: usize)
@@ -260,10 +276,10 @@ fn write_word(x: u64, out: &mut [u8], start: usize)
     text::store_eight(x, &mut out[a..e]);
 }
 
-fn write_words(t: u64, r: u64, out: &mut [u8])
-    requires { ⌜ 3 + (8 + 8) ≤ length (now out) ⌝ }
-    ensures { λ _. ⌜ now (out .exit) ≡ over 4 (words t r) (now (out .entry)) ⌝ }
+fn write_words(t: u64, r: u64, out: &mut [u8], start: usize)
+    requires { ⌜ (1 ≤ start) × (start - 1 + (8 + 8) ≤ length (now out)) ⌝ }
+    ensures { λ _. ⌜ now (out .exit) ≡ over start (words t r) (now (out .entry)) ⌝ }
 {
-    write_word(t, out, 4);
-    write_word(r, out, 12);
+    write_word(t, out, start);
+    write_word(r, out, start + 8);
 }

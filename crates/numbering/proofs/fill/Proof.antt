@@ -74,9 +74,10 @@ confirmed-requires : tie.Need-confirmed-requires Inv-loop μ-loop
 confirmed-requires c κs =
     let g = c .before .before .before .before .before .before .before .before .before .before .before .before .before .before in
     let l = c .before .before .before .before .before .before .before .before .before .loop in
-    let three = three-bytes (g .args .file .now) (g .args .out .now) (l .out) (l .s) (l .inv) (c .before .before .before .before .before .before .before .if1 .taken) in
-    (rw (to-end (g .args .file .now) (l .s .at), length-drop (l .s .at) (g .args .file .now)) (omega (arith, three)),
-    λ t e. hinted (c .before .before .before .before .before .before .before .before .before .before .before .table .result) (c .before .before .before .before .before .before .before .before .before .before .before .table .ensures) t (c .before .before .hint .result) (in-table (c .before .before .before .before .before .before .before .before .before .before .before .table .result) (c .before .before .before .before .before .before .before .before .before .before .before .table .ensures) (c .before .before .hint .result) (c .before .before .hint .ensures)) _ e)
+    let three = three-bytes (g .args .file .now) (g .args .out .now) (l .out) (l .s) (l .inv) (c .before .before .before .before .before .before .before .if1 .taken) in (
+      rw (to-end (g .args .file .now) (l .s .at), length-drop (l .s .at) (g .args .file .now)) (omega (arith, three)),
+      λ t e. hinted (c .before .before .before .before .before .before .before .before .before .before .before .table .result) (c .before .before .before .before .before .before .before .before .before .before .before .table .ensures) t (c .before .before .hint .result) (in-table (c .before .before .before .before .before .before .before .before .before .before .before .table .result) (c .before .before .before .before .before .before .before .before .before .before .before .table .ensures) (c .before .before .hint .result) (c .before .before .hint .ensures)) _ e,
+    )
 
 size-requires : tie.Need-size-requires Inv-loop μ-loop
 size-requires c κs = search needs

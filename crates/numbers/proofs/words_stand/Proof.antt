@@ -11,6 +11,9 @@ use Rattle.numbers.proofs.words_stand.Tie as tie
 word-stands-requires : tie.Need-word-stands-requires
 word-stands-requires c κs = search needs
 
+add-word-stands : tie.Need-add-word-stands
+add-word-stands c = search needs
+
 word-stands-requires-2 : tie.Need-word-stands-requires-2
 word-stands-requires-2 c κs = search needs
 
@@ -18,7 +21,8 @@ returns : tie.Need-returns
 unfolding words
 returns c =
     let g = c .before .before .before .args in
-    compared (g .record .now) 4 8 (bytesOf 8 (g .t)) (length-bytes 8 (g .t)) (bytesOf 8 (g .r)) 8 (search needs) (search needs) _ _ (c .before .word-stands .ensures) (c .word-stands2 .ensures)
+    compared (g .record .now) (g .start) 8 (bytesOf 8 (g .t)) (length-bytes 8 (g .t)) (bytesOf 8 (g .r)) 8 (search needs) (search needs) _ _ (c .before .word-stands .ensures) (c .word-stands2 .ensures)
 
 pub words-stand-spec : {M : Type 1} → statement M
-words-stand-spec = tie.close (tie.spec word-stands-requires word-stands-requires-2 returns)
+words-stand-spec =
+    tie.close (tie.spec word-stands-requires add-word-stands word-stands-requires-2 returns)

@@ -11,6 +11,9 @@ use Rattle.numbers.proofs.write_words.Tie as tie
 write-word-requires : tie.Need-write-word-requires
 write-word-requires c κs = search needs
 
+add-write-word : tie.Need-add-write-word
+add-write-word c = search needs
+
 write-word-requires-2 : tie.Need-write-word-requires-2
 write-word-requires-2 c κs = search needs
 
@@ -23,8 +26,9 @@ returns c =
     let second = c .before .before in
     let first = second .before .before .before .before in
     let g = first .before .before .before .args in
-    written (g .out .now) 4 8 (bytesOf 8 (g .t)) (length-bytes 8 (g .t)) (bytesOf 8 (g .r)) 8 (search needs) (search needs) _ _ (first .write-word .ensures) (second .write-word2 .ensures)
+    written (g .out .now) (g .start) 8 (bytesOf 8 (g .t)) (length-bytes 8 (g .t)) (bytesOf 8 (g .r)) 8 (search needs) (search needs) _ _ (first .write-word .ensures) (second .write-word2 .ensures)
 
 pub write-words-spec : {M : Type 1} → statement M
 write-words-spec =
-    tie.close (tie.spec write-word-requires write-word-requires-2 same-length returns)
+    tie.close
+    (tie.spec write-word-requires add-write-word write-word-requires-2 same-length returns)

@@ -2,13 +2,13 @@
 -- Assumes nothing.
 use mathlib.Core.Path.{refl, ap}
 use native.Mathlib.Numerals.{add-one}
-use borrow.Author.Needs.{needs}
 use Rattle.format.specs.Bytes.{decimal}
 use Rattle.numbers.specs.Tally.{tally}
 use Rattle.numbers.specs.Carried.{Carried}
 use Rattle.numbers.specs.declared.Numbers.the-variants.{Nothing}
 use Rattle.numbers.proofs.Places.{other, totals}
-use Rattle.numbers.proofs.Words.{zero-word, words-digits}
+use Rattle.numbers.proofs.Words.{zero-word, words-digits, closing}
+use borrow.Author.Needs.{needs}
 use Rattle.numbers.proofs.Counts.numbers_for.Statement.{statement}
 use Rattle.numbers.proofs.Counts.numbers_for.Tie as tie
 
@@ -17,9 +17,6 @@ add-t4 c = search needs
 
 add-t5 : tie.Need-add-t5
 add-t5 c = search needs
-
-add-t6 : tie.Need-add-t6
-add-t6 c = search needs
 
 returns : tie.Need-returns
 returns c = rw (c .before .match .keys1) (record { right = ap (decimal 5) (add-one _); place = refl; wide = refl })
@@ -35,7 +32,9 @@ returns-3 c =
     rw (c .match .keys3) (record { right = words-digits _ _ _ _ (words .1) (words .2); place = refl; wide = refl })
 
 returns-4 : tie.Need-returns-4
-returns-4 c = rw (c .before .match .keys4) (record { right = totals _ _ _; place = refl; wide = refl })
+returns-4 c =
+    let words = c .before .pre .0 .1 in
+    rw (c .match .keys4) (record { right = closing _ _ _ _ _ (words .0) (words .3); place = refl; wide = refl })
 
 returns-5 : tie.Need-returns-5
 returns-5 c = rw (c .before .match .keys5) (record { right = totals _ _ _; place = refl; wide = refl })
@@ -49,5 +48,4 @@ returns-6 c =
 
 pub numbers-for-spec : {M : Type 1} → statement M
 numbers-for-spec =
-    tie.close
-    (tie.spec add-t4 add-t5 add-t6 returns returns-2 returns-3 returns-4 returns-5 returns-6)
+    tie.close (tie.spec add-t4 add-t5 returns returns-2 returns-3 returns-4 returns-5 returns-6)

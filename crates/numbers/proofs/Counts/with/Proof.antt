@@ -1,17 +1,23 @@
 -- `numbers::Counts::with` meets its contract: each arm knows its place, and changes what the format changes there.
 -- Assumes nothing.
 use mathlib.Core.Path.{_≡_, refl, _∙_}
-use native.Mathlib.Omega.{arith}
-use borrow.Author.Needs.{needs}
 use Rattle.format.specs.Checks.{one, count}
 use Rattle.numbers.specs.Tally.{tally}
 use Rattle.numbers.proofs.Places.{other, alike, counted}
-use Rattle.numbers.proofs.Words.{zero-word, one-word, grown-at, one-before}
+use Rattle.numbers.proofs.Words.{zero-word, one-word, two-word, grown-at, one-before}
+use native.Mathlib.Omega.{arith}
+use borrow.Author.Needs.{needs}
 use Rattle.numbers.proofs.Counts.with.Statement.{statement}
 use Rattle.numbers.proofs.Counts.with.Tie as tie
 
 grown-requires : tie.Need-grown-requires
 grown-requires c κs = c .pre .0 .1
+
+add-next-eight : tie.Need-add-next-eight
+add-next-eight c = search needs
+
+next-eight-requires : tie.Need-next-eight-requires
+next-eight-requires c κs = c .before .before .pre .0 .1 .3
 
 add-self : tie.Need-add-self
 add-self c = search needs
@@ -35,44 +41,34 @@ add-self-7 : tie.Need-add-self-7
 add-self-7 c = search needs
 
 returns : tie.Need-returns
-returns c = (counted _ _ _ 1 (c .before .match .keys1) (omega arith), ((omega arith, (zero-word, zero-word, zero-word)), omega arith))
+returns c = (counted _ _ _ 1 (c .before .match .keys1) (omega arith), ((omega arith, (zero-word, zero-word, zero-word, two-word)), omega arith))
 
 returns-2 : tie.Need-returns-2
 returns-2 c =
     let at = c .before .before .before in
-    let g = at .before .before .before in
-    let n = g .args .self in (
+    let g = at .before .before .before .before .before in
+    let n = g .args .self in
+    let next = grown-at _ (g .args .place) 2 (n .«in_group») (n .«in_transaction») (at .match .keys2) (at .before .before .before .before .grown .ensures) in (
       counted _ _ _ 2 (at .match .keys2) (omega arith),
-      (
-        (
-          omega arith,
-          (grown-at _ (g .args .place) 2 (n .«in_group») (n .«in_transaction») (at .match .keys2) (at .before .before .grown .ensures), one-before _ (n .«in_group») (g .pre .0 .1 .0), one-word),
-        ),
-        omega arith,
-      ),
+      ((omega arith, (next, one-before _ (n .«in_group») (g .pre .0 .1 .0), one-word, at .before .before .next-eight .ensures)), omega arith),
     )
 
 returns-3 : tie.Need-returns-3
 returns-3 c =
     let at = c .before .before in
-    let g = at .before .before .before in
-    let n = g .args .self in (
+    let g = at .before .before .before .before .before in
+    let n = g .args .self in
+    let next = grown-at _ (g .args .place) 3 (n .«in_group») (n .«in_transaction») (at .match .keys3) (at .before .before .before .before .grown .ensures) in (
       counted _ _ _ 3 (at .match .keys3) (omega arith),
-      (
-        (
-          omega arith,
-          (g .pre .0 .1 .0, g .pre .0 .1 .1, grown-at _ (g .args .place) 3 (n .«in_group») (n .«in_transaction») (at .match .keys3) (at .before .before .grown .ensures)),
-        ),
-        omega arith,
-      ),
+      ((omega arith, (g .pre .0 .1 .0, g .pre .0 .1 .1, next, at .before .before .next-eight .ensures)), omega arith),
     )
 
 returns-4 : tie.Need-returns-4
-returns-4 c = (counted _ _ _ 4 (c .match .keys4) (omega arith), ((omega arith, (zero-word, zero-word, zero-word)), omega arith))
+returns-4 c = (counted _ _ _ 4 (c .match .keys4) (omega arith), ((omega arith, (zero-word, zero-word, zero-word, one-word)), omega arith))
 
 returns-5 : tie.Need-returns-5
 returns-5 c =
-    let g = c .before .before .before in
+    let g = c .before .before .before .before .before in
     let n = tally (g .args .self) in
     let ne = c .match .rest in
     (alike _ (one n) (omega arith) ∙ other (λ k. one n ≡ count n k) (g .args .place) (ne .0 .0 .0 .1) (ne .0 .0 .1) (ne .0 .1) (ne .1) refl (λ e. refl) refl, ((omega arith, g .pre .0 .1), omega arith))
@@ -82,6 +78,8 @@ with-spec =
     tie.close
     (tie.spec
     grown-requires
+    add-next-eight
+    next-eight-requires
     add-self
     add-self-2
     add-self-3

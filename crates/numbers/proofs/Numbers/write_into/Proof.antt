@@ -1,11 +1,11 @@
--- `numbers::Numbers::write_into` meets its contract: GRT and TRL have the group before the pair that headers and details have.
+-- `numbers::Numbers::write_into` meets its contract: GRT and TRL have the group before a pair.
 -- Assumes nothing.
-use native.Mathlib.Omega.{arith}
-use borrow.Author.Needs.{needs}
 use Rattle.format.specs.Bytes.{decimal}
 use Rattle.format.proofs.Decimal.{length-decimal}
-use Rattle.numbers.specs.Carried.{pair}
+use Rattle.numbers.specs.Carried.{pair, words}
 use Rattle.numbers.proofs.Laws.{over-nothing, written}
+use native.Mathlib.Omega.{arith}
+use borrow.Author.Needs.{needs}
 use Rattle.numbers.proofs.Numbers.write_into.Statement.{statement}
 use Rattle.numbers.proofs.Numbers.write_into.Tie as tie
 
@@ -39,10 +39,25 @@ write-requires-2 c κs =
     let h = rw (at .self3 .given .1) at (at .before .before .before .pre) in
     omega (arith, h)
 
+write-words-requires-2 : tie.Need-write-words-requires-2
+write-words-requires-2 c κs =
+    let at = c .before .before .before .before .before .before in
+    let h = rw (at .self3 .given .1) at (at .before .before .before .pre) in
+    omega (arith, h)
+
+enum-known-self-4 : tie.Need-enum-known-self-4
+enum-known-self-4 c = search needs
+
+write-requires-3 : tie.Need-write-requires-3
+write-requires-3 c κs =
+    let at = c .before .before in
+    let h = rw (at .self4 .given .1) at (at .before .before .before .pre) in
+    omega (arith, h)
+
 write-pair-requires : tie.Need-write-pair-requires
 write-pair-requires c κs =
     let at = c .before .before .before .before .before .before in
-    let h = rw (at .self3 .given .1) at (at .before .before .before .pre) in
+    let h = rw (at .self4 .given .1) at (at .before .before .before .pre) in
     omega (arith, h)
 
 returns : tie.Need-returns
@@ -65,15 +80,26 @@ same-length-3 c = search needs
 
 returns-4 : tie.Need-returns-4
 returns-4 c =
-    let second = c .before .before in
-    let first = second .before .before .before .before in
-    let at = first .before .before .before in
+    let at = c .before .before .before .before .before .before .before .before .before in
     let g = at .self3 .given .0 in
     let entry = at .before .before .before in
     let h = rw (at .self3 .given .1) at (entry .pre) in
     rw (at .self3 .given .1)
+    (written (entry .args .out .now) 4 5 (decimal 5 (g .0)) (length-decimal 5 (g .0)) (words (g .1 .0) (g .1 .1 .0)) 16 (omega arith) (omega (arith, h)) _ _
+    (c .before .before .before .before .before .before .write2 .ensures) (c .before .before .write-words2 .ensures))
+
+same-length-4 : tie.Need-same-length-4
+same-length-4 c = search needs
+
+returns-5 : tie.Need-returns-5
+returns-5 c =
+    let at = c .before .before .before .before .before .before .before .before .before in
+    let g = at .self4 .given .0 in
+    let entry = at .before .before .before in
+    let h = rw (at .self4 .given .1) at (entry .pre) in
+    rw (at .self4 .given .1)
     (written (entry .args .out .now) 4 5 (decimal 5 (g .0)) (length-decimal 5 (g .0)) (pair (g .1 .0) (g .1 .1 .0)) 16 (omega arith) (omega (arith, h)) _ _
-    (first .write2 .ensures) (second .write-pair .ensures))
+    (c .before .before .before .before .before .before .write3 .ensures) (c .before .before .write-pair .ensures))
 
 pub write-into-spec : {M : Type 1} → statement M
 write-into-spec =
@@ -86,6 +112,9 @@ write-into-spec =
     write-words-requires
     enum-known-self-3
     write-requires-2
+    write-words-requires-2
+    enum-known-self-4
+    write-requires-3
     write-pair-requires
     returns
     same-length
@@ -93,4 +122,6 @@ write-into-spec =
     same-length-2
     returns-3
     same-length-3
-    returns-4)
+    returns-4
+    same-length-4
+    returns-5)
