@@ -130,8 +130,8 @@ impl Counts {
         }
     }
 
-    // The word of the count that a header makes one more, or of the one that a detail does. Both in one call, which the compiler takes
-    // apart in place.
+    // The word of one more transaction in the group, which a header makes, or of one more record in the transaction. One call serves both,
+    // so that its code stands once in a walk.
     fn grown(self, head: bool) -> u64
         requires { ⌜ Written self ⌝ }
         ensures { λ r. ⌜ r ≡ wordOf (decimal 8 (cond head (self .«in_group») (self .«in_transaction») + 1)) ⌝ }

@@ -194,7 +194,8 @@ pub fn store_eight(x: u64, out: &mut [u8])
 }
 
 // The word of the digits of n + 1, from that of the digits of n. A last digit below 9 grows by one; a 9 becomes 0, and then the digits
-// before it, which are those of `number`, grow. Nine times in ten there is no turn. (No code reads `number`: it is for the proof.)
+// before it, which are those of `number`, grow. Nine times in ten there is no turn. (`number` is for the proof: no answer comes of it, and
+// the compiler drops it.)
 pub fn next_eight(word: u64, n: u64) -> u64
     requires { ⌜ word ≡ wordOf (decimal 8 n) ⌝ }
     ensures { λ r. ⌜ r ≡ wordOf (decimal 8 (n + 1)) ⌝ }
