@@ -243,6 +243,18 @@ pub fn confirmed(hinted: Row, record: &[u8]) -> Shape
     row_of(record).shape()
 }
 
+// The row itself, for a walk that judges a record by more than its place and length.
+pub fn confirmed_row(hinted: Row, record: &[u8]) -> Row
+    requires { ⌜ 3 ≤ length (now «record») ⌝ }
+    requires { ⌜ ((t : Bytes) → sameBytes (typeOf hinted) t ≡ true → hinted ≡ rowFor t) ⌝ }
+    ensures { λ r. ⌜ r ≡ rowFor (take 3 (now («record» .entry))) ⌝ }
+{
+    if is_type(hinted, record[0], record[1], record[2]) {
+        return hinted;
+    }
+    row_of(record)
+}
+
 // In the order of the format's rows.
 pub const ROWS: [Row; 38] = [
     Row {

@@ -1,0 +1,41 @@
+-- `kinds::confirmed_row` meets its contract: the hint is compared, and a search takes its place.
+-- Assumes nothing.
+use borrow.Author.Needs.{needs}
+use mathlib.Core.Path.{sym, ap, _∙_}
+use Rattle.kinds.specs.Rows.{rowFor}
+use Rattle.kinds.proofs.Laws.{first-three}
+use Rattle.kinds.proofs.confirmed_row.Statement.{statement}
+use Rattle.kinds.proofs.confirmed_row.Tie as tie
+
+shared-slice-read-is-type : tie.Need-shared-slice-read-is-type
+shared-slice-read-is-type c = search needs
+
+shared-slice-read-is-type-2 : tie.Need-shared-slice-read-is-type-2
+shared-slice-read-is-type-2 c = search needs
+
+shared-slice-read-is-type-3 : tie.Need-shared-slice-read-is-type-3
+shared-slice-read-is-type-3 c = search needs
+
+is-type-requires : tie.Need-is-type-requires
+is-type-requires c κs = search needs
+
+returns : tie.Need-returns
+returns c = c .before .before .before .before .before .before .pre .1 _ (sym (c .before .is-type .ensures) ∙ c .if1 .taken) ∙ ap rowFor (first-three (c .before .before .before .before .before .before .args .record .now) (c .before .before .before .before .before .before .pre .0))
+
+row-of-requires : tie.Need-row-of-requires
+row-of-requires c κs = search needs
+
+returns-2 : tie.Need-returns-2
+returns-2 c = c .row-of .ensures
+
+pub confirmed-row-spec : {M : Type 1} → statement M
+confirmed-row-spec =
+    tie.close
+    (tie.spec
+    shared-slice-read-is-type
+    shared-slice-read-is-type-2
+    shared-slice-read-is-type-3
+    is-type-requires
+    returns
+    row-of-requires
+    returns-2)
