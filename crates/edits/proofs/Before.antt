@@ -3,16 +3,15 @@ use mathlib.Core.Path.{_≡_, refl, sym, ap, _∙_}
 use mathlib.Core.Bool.{Bool, true, false, not, cond, _&&_, _||_, or-false, and-true}
 use mathlib.Core.Option.{Option, none, some}
 use mathlib.Core.List.{List, [], _∷_, _++_, append-nil}
-use Prim.Native.Nat.{ℕ, zero, suc, _+_, _*_, _^_, _<_, _≤_}
-use native.Mathlib.Nat.{pow-suc}
+use Prim.Native.Nat.{ℕ, _+_, _<_, _≤_}
 use native.Mathlib.Numerals.{add-one}
 use native.Mathlib.Omega.{arith}
-use borrow.Author.Tests.{eq-eqb, ne-eqb, lt-ltb, leb-true}
+use borrow.Author.Tests.{ne-eqb, lt-ltb, leb-true}
 use lib.Dec.{leb, eqb, ltb}
-use lib.ListN.{length, take, drop, getD, length-take}
+use lib.ListN.{length, getD, length-take}
 use Rattle.format.specs.Ascii.{ascii}
 use Rattle.format.specs.Bytes.{Bytes, sameBytes}
-use Rattle.format.specs.Fields.{fieldOf, isDigit, areDigits, digit, numberFrom, numberOf}
+use Rattle.format.specs.Fields.{fieldOf, isDigit, areDigits, digit, numberOf}
 use Rattle.rules.specs.Records.{isPublisher, only, lastOf}
 use Rattle.rules.specs.Publisher.{sequenceNumber, follows, is25}
 use Rattle.kinds.proofs.Tests.{by-cases, both}

@@ -1,12 +1,11 @@
 -- A list of findings as a sum of weights, and its largest verdict by the levels that hold. Assumes nothing.
 use mathlib.Core.Path.{_≡_, refl, sym, ap, _∙_}
-use mathlib.Core.Bool.{Bool, true, false, cond, _&&_, _||_, or-false}
-use mathlib.Core.List.{List, [], _∷_, _++_}
+use mathlib.Core.Bool.{Bool, true, false, cond, _&&_, _||_}
+use mathlib.Core.List.{List, [], _∷_}
 use Prim.Native.Nat.{ℕ, suc, _+_, _*_}
 use native.Mathlib.Nat.{mul-add, mul-assoc, mul-comm, mul-one, mul-zero, one-mul}
 use native.Mathlib.Omega.{arith}
-use lib.Dec.{leb, eqb, leb·zero}
-use lib.ListN.{replicate}
+use lib.Dec.{eqb, leb·zero}
 use Rattle.rules.specs.Findings.{setOf, Level, FR, RR, TR, GR, level, verdict, larger, worstFrom, worst}
 
 pub clash : true ≡ false → ⊥

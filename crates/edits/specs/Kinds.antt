@@ -4,7 +4,6 @@ use mathlib.Core.Bool.{true, _||_}
 use lib.ListN.{length}
 use Rattle.format.specs.Bytes.{Bytes}
 use Rattle.rules.specs.Records.{isType, isHeader, isPublisher, isWriter}
-use Rattle.rules.specs.Other.{is24}
 
 abbrev pub Header : Bytes → Type 0
 Header r = (length r ≡ 260) × (isHeader r ≡ true)

@@ -1,8 +1,8 @@
 // NWR and REV.
 ghost use mathlib.Core.Path.{_≡_};
-ghost use mathlib.Core.Bool.{Bool, false};
-ghost use mathlib.Core.List.{List, [], _∷_, _++_};
-ghost use lib.ListN.{length, replicate};
+ghost use mathlib.Core.Bool.{false};
+ghost use mathlib.Core.List.{List, _∷_, _++_};
+ghost use lib.ListN.{replicate};
 ghost use Rattle.format.specs.Bytes.{Bytes};
 ghost use Rattle.rules.specs.Tables.{Tables};
 ghost use Rattle.rules.specs.Header.{isSerious, is16, is17, is18, is19, is20, is21, is22, is23};

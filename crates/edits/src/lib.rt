@@ -1,12 +1,7 @@
 // The findings on one record: one function finds each, and one for each kind of record puts those that it can have into a set, with the
 // largest verdict among them. Records of no kind named here have none.
 ghost use mathlib.Core.Path.{_≡_};
-ghost use mathlib.Core.Bool.{not, cond};
-ghost use mathlib.Core.List.{[], _∷_};
-ghost use Prim.Native.Nat.{_≤_};
-ghost use lib.ListN.{length};
-ghost use Rattle.format.specs.Bytes.{sameBytes};
-ghost use Rattle.rules.specs.Records.{isType};
+ghost use mathlib.Core.Bool.{cond};
 
 pub mod header;
 pub mod other;

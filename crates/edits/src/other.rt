@@ -2,10 +2,10 @@
 ghost use mathlib.Core.Path.{_≡_};
 ghost use mathlib.Core.Bool.{false, true};
 ghost use mathlib.Core.List.{List, [], _∷_, _++_};
-ghost use lib.ListN.{length, replicate};
+ghost use lib.ListN.{replicate};
 ghost use Rattle.format.specs.Bytes.{Bytes};
 ghost use Rattle.rules.specs.Tables.{Tables};
-ghost use Rattle.rules.specs.Other.{is24, is43, is44, is45, is46};
+ghost use Rattle.rules.specs.Other.{is24, is44, is45, is46};
 ghost use Rattle.rules.specs.Findings.{setOf, worst};
 ghost use Rattle.edits.specs.Kinds.{Version, Performer, Recording};
 ghost use Rattle.edits.specs.Judged.{Judged};

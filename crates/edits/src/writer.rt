@@ -1,8 +1,8 @@
 // SWR and OWR.
 ghost use mathlib.Core.Path.{_≡_};
 ghost use mathlib.Core.Bool.{false, not};
-ghost use mathlib.Core.List.{List, [], _∷_, _++_};
-ghost use lib.ListN.{length, replicate};
+ghost use mathlib.Core.List.{List, _∷_, _++_};
+ghost use lib.ListN.{replicate};
 ghost use Rattle.format.specs.Bytes.{Bytes};
 ghost use Rattle.rules.specs.Tables.{Tables, designations};
 ghost use Rattle.rules.specs.Records.{isType};

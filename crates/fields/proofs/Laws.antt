@@ -1,8 +1,8 @@
 -- A field of a fixed width byte by byte, and what its bytes make of it. Assumes nothing.
 use mathlib.Core.Path.{_≡_, refl, sym, ap, _∙_}
-use mathlib.Core.Bool.{Bool, true, false, cond, not, _&&_, and-true, and-false, and-assoc}
-use mathlib.Core.List.{List, [], _∷_}
-use Prim.Native.Nat.{ℕ, zero, suc, _+_, _-_, _*_, _%_, _<_, _≤_}
+use mathlib.Core.Bool.{Bool, true, false, cond, _&&_, and-true, and-false, and-assoc}
+use mathlib.Core.List.{[], _∷_}
+use Prim.Native.Nat.{ℕ, zero, suc, _+_, _-_, _*_, _<_, _≤_}
 use native.Mathlib.Numerals.{sub-one}
 use native.Mathlib.Omega.{arith}
 use borrow.Author.Tests.{ne-eqb, le-leb, lt-leb}
@@ -12,7 +12,7 @@ use lib.Seq.{drop-cons}
 use Rattle.format.specs.Ascii.{ascii}
 use Rattle.format.specs.Bytes.{Bytes, sameBytes}
 use Rattle.format.specs.Fields.{fieldOf, isDigit, areDigits, digit, numberOf}
-use Rattle.rules.specs.Values.{leapYear, monthLengths, daysIn, isDay, isDate, isDuration, iswcSum, isIswc, shareOf, badShare}
+use Rattle.rules.specs.Values.{leapYear, monthLengths, daysIn, isDay, isDate, isDuration, iswcSum}
 
 -- ---- the n bytes from i on, one by one
 

@@ -1,5 +1,6 @@
 pub mod Lists
 pub mod Types
-pub mod Examples
 pub mod Fields
 pub mod Joined
+pub mod Starred
+pub mod Examples

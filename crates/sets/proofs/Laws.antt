@@ -1,5 +1,5 @@
 -- The bits of a number counted and searched, the set of a list read back, and eight bytes stored. Assumes nothing.
-use mathlib.Core.Path.{_≡_, refl, sym, ap, _∙_}
+use mathlib.Core.Path.{_≡_, refl, ap, _∙_}
 use mathlib.Core.Bool.{Bool, true, false, cond}
 use mathlib.Core.List.{List, [], _∷_, _++_, append-nil}
 use Prim.Native.Nat.{ℕ, zero, suc, _+_, _-_, _*_, _/_, _%_, _^_, _<_, _≤_}
@@ -7,7 +7,7 @@ use native.Mathlib.Nat.{pow-suc, not-suc-le-zero, le-of-suc-le-suc}
 use native.Mathlib.Omega.{arith}
 use lib.Dec.{eqb}
 use lib.Count.{ones, trailingZeros, ones-step, under}
-use lib.ListN.{length, take, drop, replicate, drop-of-length-le}
+use lib.ListN.{length, replicate, drop-of-length-le}
 use lib.Seq.{sets, sets-eq}
 use Rattle.format.specs.Bytes.{Bytes}
 use Rattle.rules.specs.Findings.{setOf, places, countOf, lowestOf, bytesOf}

@@ -1,6 +1,5 @@
 -- `fields::is_day` meets its contract: no month has the number 0 or is above 12.
 -- Assumes nothing.
-use mathlib.Core.Path.{_∙_}
 use Rattle.fields.proofs.Laws.{early, late, inside}
 use borrow.Author.Needs.{needs}
 use Rattle.fields.proofs.is_day.Statement.{statement}

@@ -1,6 +1,5 @@
 -- `edits::header::serious` meets its contract.
 -- Assumes nothing.
-use Rattle.format.specs.Bytes.{Bytes}
 use Rattle.edits.proofs.Fields.{serious-is}
 use borrow.Author.Needs.{needs}
 use Rattle.edits.proofs.header.serious.Statement.{statement}

@@ -1,7 +1,7 @@
 -- `edits::other::found44` meets its contract.
 -- Assumes nothing.
-use mathlib.Core.Path.{_≡_, sym, ap, _∙_}
-use mathlib.Core.Bool.{_&&_, _||_}
+use mathlib.Core.Path.{_≡_, ap, _∙_}
+use mathlib.Core.Bool.{_||_}
 use borrow.Author.Tests.{not-true, not-false}
 use Rattle.format.specs.Fields.{isBlank}
 use Rattle.rules.specs.Values.{areZeros}

@@ -1,6 +1,6 @@
 -- `edits::publisher::found25` meets its contract.
 -- Assumes nothing.
-use mathlib.Core.Path.{sym, ap, _∙_}
+use mathlib.Core.Path.{ap, _∙_}
 use Rattle.format.specs.Ascii.{ascii}
 use Rattle.format.specs.Bytes.{sameBytes}
 use Rattle.edits.proofs.Before.{found-25, zero-one}

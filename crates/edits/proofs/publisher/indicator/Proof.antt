@@ -1,6 +1,5 @@
 -- `edits::publisher::indicator` meets its contract.
 -- Assumes nothing.
-use mathlib.Core.Path.{_∙_}
 use native.Mathlib.Omega.{arith}
 use Rattle.format.specs.Fields.{fieldOf}
 use lib.ListN.{getD}

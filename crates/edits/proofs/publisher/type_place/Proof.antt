@@ -1,6 +1,6 @@
 -- `edits::publisher::type_place` meets its contract.
 -- Assumes nothing.
-use mathlib.Core.Path.{sym, ap, _∙_}
+use mathlib.Core.Path.{ap, _∙_}
 use Rattle.format.specs.Bytes.{Bytes}
 use Rattle.rules.specs.Tables.{publisherTypes}
 use Rattle.edits.specs.Places.{placeOf}

@@ -1,6 +1,6 @@
 -- `edits::publisher::unknown` meets its contract: a blank code is not looked up.
 -- Assumes nothing.
-use mathlib.Core.Path.{sym, ap, _∙_}
+use mathlib.Core.Path.{sym, _∙_}
 use native.Mathlib.Omega.{arith}
 use Rattle.edits.proofs.Fields.{blank-not, entered-not}
 use borrow.Author.Needs.{needs}
