@@ -38,8 +38,8 @@ pub fn sequence(record: &[u8]) -> u64
     ensures { λ r. ⌜ r ≤ 100 ⌝ }
 {
     let number = text::field(record, 20, 2);
-    if text::digits(number) {
-        text::number(number)
+    if fields::are_digits(number[0], number[1]) {
+        fields::number(number[0], number[1])
     } else {
         100
     }
@@ -67,29 +67,14 @@ fn type_place(record: &[u8]) -> u8
     ensures { λ r. ⌜ r ≡ placeOf (publisherType (now («record» .entry))) publisherTypes ⌝ }
 {
     let code = text::field(record, 77, 2);
-    let a = code[0];
-    let b = code[1];
-    pick(
-        (b'E' == a) & (b' ' == b),
-        0,
-        pick(
-            (b'A' == a) & (b'Q' == b),
-            1,
-            pick(
-                (b'A' == a) & (b'M' == b),
-                2,
-                pick(
-                    (b'P' == a) & (b'A' == b),
-                    3,
-                    pick(
-                        (b'S' == a) & (b'E' == b),
-                        4,
-                        pick((b'E' == a) & (b'S' == b), 5, 6),
-                    ),
-                ),
-            ),
-        ),
-    )
+    let first = code[0];
+    let second = code[1];
+    let es = pick((b'E' == first) & (b'S' == second), 5, 6);
+    let se = pick((b'S' == first) & (b'E' == second), 4, es);
+    let pa = pick((b'P' == first) & (b'A' == second), 3, se);
+    let am = pick((b'A' == first) & (b'M' == second), 2, pa);
+    let aq = pick((b'A' == first) & (b'Q' == second), 1, am);
+    pick((b'E' == first) & (b' ' == second), 0, aq)
 }
 
 // The same with the default of 35 in force, from the place as it stands: 0 for E, 1 for AQ.

@@ -32,41 +32,17 @@ pub fn designation_in_force(record: &[u8]) -> u8
     ensures { λ r. ⌜ r ≡ placeOf (designationInForce (now («record» .entry))) designations ⌝ }
 {
     let code = text::field(record, 105, 2);
-    let a = code[0];
-    let b = code[1];
-    pick(
-        (b'C' == a) & (b'A' == b),
-        0,
-        pick(
-            (b'A' == a) & (b' ' == b),
-            1,
-            pick(
-                (b'C' == a) & (b' ' == b),
-                2,
-                pick(
-                    (b'A' == a) & (b'R' == b),
-                    3,
-                    pick(
-                        (b'A' == a) & (b'D' == b),
-                        4,
-                        pick(
-                            (b'S' == a) & (b'R' == b),
-                            5,
-                            pick(
-                                (b'S' == a) & (b'A' == b),
-                                6,
-                                pick(
-                                    (b'T' == a) & (b'R' == b),
-                                    7,
-                                    pick((b'P' == a) & (b'A' == b), 8, 9),
-                                ),
-                            ),
-                        ),
-                    ),
-                ),
-            ),
-        ),
-    )
+    let first = code[0];
+    let second = code[1];
+    let pa = pick((b'P' == first) & (b'A' == second), 8, 9);
+    let tr = pick((b'T' == first) & (b'R' == second), 7, pa);
+    let sa = pick((b'S' == first) & (b'A' == second), 6, tr);
+    let sr = pick((b'S' == first) & (b'R' == second), 5, sa);
+    let ad = pick((b'A' == first) & (b'D' == second), 4, sr);
+    let ar = pick((b'A' == first) & (b'R' == second), 3, ad);
+    let composer = pick((b'C' == first) & (b' ' == second), 2, ar);
+    let author = pick((b'A' == first) & (b' ' == second), 1, composer);
+    pick((b'C' == first) & (b'A' == second), 0, author)
 }
 
 // SWR last name blank.

@@ -25,13 +25,15 @@ pub fn zeros(field: &[u8]) -> bool
 
 // ---- two bytes
 
-fn are_digits(a: u8, b: u8) -> bool
+// Whether both are digits.
+pub fn are_digits(a: u8, b: u8) -> bool
     ensures { λ r. ⌜ r ≡ areDigits (a ∷ b ∷ []) ⌝ }
 {
     text::is_digit(a) & text::is_digit(b)
 }
 
-fn number(a: u8, b: u8) -> u64
+// The number that they write.
+pub fn number(a: u8, b: u8) -> u64
     ensures { λ r. ⌜ r ≡ numberOf (a ∷ b ∷ []) ⌝ }
     ensures { λ r. ⌜ r ≤ 99 ⌝ }
 {

@@ -3,6 +3,7 @@
 use native.Mathlib.Omega.{arith}
 use mathlib.Core.Path.{sym, ap, _∙_}
 use Rattle.format.specs.Fields.{areDigits, numberOf}
+use Rattle.fields.proofs.Laws.{spelled}
 use Rattle.edits.specs.Before.{sequenceOf}
 use borrow.Author.Needs.{needs}
 use Rattle.edits.proofs.publisher.sequence.Statement.{statement}
@@ -11,8 +12,20 @@ use Rattle.edits.proofs.publisher.sequence.Tie as tie
 field-requires : tie.Need-field-requires
 field-requires c κs = search needs
 
-digits-requires : tie.Need-digits-requires
-digits-requires c κs = search needs
+shared-slice-read-are-digits : tie.Need-shared-slice-read-are-digits
+shared-slice-read-are-digits c = search needs
+
+shared-slice-read-are-digits-2 : tie.Need-shared-slice-read-are-digits-2
+shared-slice-read-are-digits-2 c = search needs
+
+are-digits-requires : tie.Need-are-digits-requires
+are-digits-requires c κs = search needs
+
+shared-slice-read-number : tie.Need-shared-slice-read-number
+shared-slice-read-number c = search needs
+
+shared-slice-read-number-2 : tie.Need-shared-slice-read-number-2
+shared-slice-read-number-2 c = search needs
 
 number-requires : tie.Need-number-requires
 number-requires c κs = search needs
@@ -20,17 +33,29 @@ number-requires c κs = search needs
 returns : tie.Need-returns
 unfolding sequenceOf
 returns c =
-    let f = c .before .before .before .field in
-    let d = ap areDigits (sym (f .ensures .0)) ∙ sym (c .before .before .digits .ensures) ∙ c .before .if1 .taken in
-    (rw d (c .number .ensures .0 ∙ ap numberOf (f .ensures .0)), omega (arith, rw (f .ensures .1) at (c .number .ensures .1)))
+    let f = c .before .before .before .before .before .before .before .field in
+    let two = spelled 2 (f .result .now) (f .ensures .1) ∙ f .ensures .0 in
+    let d = ap areDigits (sym two) ∙ sym (c .before .before .before .before .are-digits .ensures) ∙ c .before .before .before .if1 .taken in
+    (rw d (c .number .ensures .0 ∙ ap numberOf two), omega arith)
 
 returns-2 : tie.Need-returns-2
 unfolding sequenceOf
 returns-2 c =
-    let f = c .before .before .field in
-    let d = ap areDigits (sym (f .ensures .0)) ∙ sym (c .before .digits .ensures) ∙ c .if1 .left in
+    let f = c .before .before .before .before .field in
+    let two = spelled 2 (f .result .now) (f .ensures .1) ∙ f .ensures .0 in
+    let d = ap areDigits (sym two) ∙ sym (c .before .are-digits .ensures) ∙ c .if1 .left in
     (rw d, omega arith)
 
 pub sequence-spec : {M : Type 1} → statement M
 sequence-spec =
-    tie.close (tie.spec field-requires digits-requires number-requires returns returns-2)
+    tie.close
+    (tie.spec
+    field-requires
+    shared-slice-read-are-digits
+    shared-slice-read-are-digits-2
+    are-digits-requires
+    shared-slice-read-number
+    shared-slice-read-number-2
+    number-requires
+    returns
+    returns-2)
