@@ -249,7 +249,8 @@ pub fn confirmed_row(hinted: Row, record: &[u8]) -> Row
     requires { ⌜ ((t : Bytes) → sameBytes (typeOf hinted) t ≡ true → hinted ≡ rowFor t) ⌝ }
     ensures { λ r. ⌜ r ≡ rowFor (take 3 (now («record» .entry))) ⌝ }
 {
-    if is_type(hinted, record[0], record[1], record[2]) {
+    let own = is_type(hinted, record[0], record[1], record[2]);
+    if own {
         return hinted;
     }
     row_of(record)

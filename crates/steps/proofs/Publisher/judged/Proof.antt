@@ -1,0 +1,20 @@
+-- `steps::Publisher::judged` meets its contract. Assumes nothing.
+use borrow.Author.Needs.{needs}
+use Rattle.steps.proofs.Publisher.judged.Statement.{statement}
+use Rattle.steps.proofs.Publisher.judged.Tie as tie
+
+judge-requires : tie.Need-judge-requires
+judge-requires c κs = search needs
+
+with-publisher-requires : tie.Need-with-publisher-requires
+with-publisher-requires c κs = search needs
+
+returns : tie.Need-returns
+returns c t ds s k d p q =
+    record {
+      judged = c .before .judge .ensures t s ds (k .last) q;
+      known = c .with-publisher .ensures ds (c .before .before .before .before .before .before .args .record .now) k (d .0) (p .publisher) (p .sequence) (p .shares);
+    }
+
+pub judged-spec : {M : Type 1} → statement M
+judged-spec = tie.close (tie.spec judge-requires with-publisher-requires returns)
