@@ -1,0 +1,12 @@
+-- `heads::found15` meets its contract. Assumes nothing.
+use Rattle.rules.specs.Works.{is15}
+use borrow.Author.Needs.{needs}
+use Rattle.heads.proofs.found15.Statement.{statement}
+use Rattle.heads.proofs.found15.Tie as tie
+
+returns : tie.Need-returns
+unfolding is15
+returns c ds m = rw (m .ewts, m .vers)
+
+pub found15-spec : {M : Type 1} → statement M
+found15-spec = tie.close (tie.spec returns)
