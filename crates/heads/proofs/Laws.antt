@@ -52,12 +52,9 @@ three-levels true fr = refl
 three-levels false true = refl
 three-levels false false = refl
 
-not-first : (x y : Level) → cond (false || false) x y ≡ y
-not-first x y = refl
-
 later-level : (n : ℕ) → verdict (level (suc n)) ≤ 3
 unfolding level
-later-level n = leb-true (verdict (level (suc n))) 3 (rw (eqb·suc-zero n, not-first, three-levels))
+later-level n = leb-true (verdict (level (suc n))) 3 (rw (eqb·suc-zero n, three-levels))
 
 at-most : (b : Bool) (v w x : ℕ) → v ≤ w → x ≤ w → cond b v x ≤ w
 at-most true v w x h k = h

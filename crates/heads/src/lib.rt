@@ -122,7 +122,8 @@ fn octet(b0: bool, b1: bool, b2: bool, b3: bool, b4: bool, b5: bool, b6: bool, b
         + sets::weigh(b7, 128)
 }
 
-// Findings 0 to 15 before the header's own, which begin at 16. Finding 0 alone rejects the group, the other fifteen the transaction.
+// Findings 0 to 15 before the header's own. Finding 0 alone rejects the group, the other fifteen the transaction. The header's own begin
+// at 16 and are taken from there on, so that no sum wraps whatever they are.
 fn gather(
     b0: bool,
     b1: bool,
@@ -157,8 +158,8 @@ fn gather(
     }
 }
 
-// The header's findings, where y knows the details, links has their chains, and own is the header's set of its own findings. The group
-// names the type; t is the tolerance.
+// What a header has, where y knows the details and links their chains, and own is what the header's own fields have. named is the type that
+// GRH names, and t the tolerance.
 pub fn judge(header: &[u8], named: &[u8], own: Found, y: Tally, links: Links, t: u64) -> Head
     requires { ⌜ Header (now header) ⌝ }
     requires { ⌜ t ≤ largestTolerance ⌝ }
