@@ -23,7 +23,7 @@ eqb-sym zero (suc n) = eqb·zero-suc n ∙ sym (eqb·suc-zero n)
 eqb-sym (suc m) zero = eqb·suc-zero m ∙ sym (eqb·zero-suc m)
 eqb-sym (suc m) (suc n) = eqb·suc-suc m n ∙ eqb-sym m n ∙ sym (eqb·suc-suc n m)
 
-pub same-sym : (s t : Bytes) → sameBytes s t ≡ sameBytes t s
+same-sym : (s t : Bytes) → sameBytes s t ≡ sameBytes t s
 same-sym [] [] = refl
 same-sym [] (y ∷ t) = refl
 same-sym (x ∷ s) [] = refl
@@ -89,16 +89,16 @@ later-rejects n (b ∷ bs) =
 
 -- ---- findings that reject the transaction, before others
 
-abbrev pub some : List Bool → Bool
+abbrev some : List Bool → Bool
 some [] = false
 some (b ∷ bs) = b || some bs
 
 -- as the code joins them, from the left
-abbrev pub joined : Bool → List Bool → Bool
+abbrev joined : Bool → List Bool → Bool
 joined a [] = a
 joined a (b ∷ bs) = joined (a || b) bs
 
-pub joined-some : (a : Bool) (bs : List Bool) → joined a bs ≡ some (a ∷ bs)
+joined-some : (a : Bool) (bs : List Bool) → joined a bs ≡ some (a ∷ bs)
 joined-some a [] = sym (or-false a)
 joined-some true (b ∷ bs) = joined-some true bs
 joined-some false (b ∷ bs) = joined-some b bs

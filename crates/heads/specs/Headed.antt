@@ -13,6 +13,7 @@ use Rattle.rules.specs.Verdicts.{rejects}
 use Rattle.heads.specs.declared.Links.{Links}
 use Rattle.heads.specs.declared.Head.{Head}
 
+-- findings 11 to 14 of the details
 pub record Linked (l : Links) (ds : List Bytes) : Type 0 where
   pub many : l .many ≡ is11 ds
   pub shareless : l .shareless ≡ is12 ds
@@ -26,5 +27,6 @@ pub record Gathered (findings : List Bool) (zeroth : Bool) (h : Head) : Type 0 w
   pub rejects : h .rejects ≡ rejects findings
   pub stray : h .stray ≡ zeroth
 
+-- of a transaction's header, under a GRH that names a type
 abbrev pub Headed : Tables → ℕ → Bytes → Transaction → Head → Type 0
 Headed tables t named x h = Gathered (headerFindings tables t named x) (is0 named (x .header)) h
