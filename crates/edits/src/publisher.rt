@@ -1,10 +1,9 @@
 // SPU and OPU.
 ghost use mathlib.Core.Path.{_≡_};
-ghost use mathlib.Core.Bool.{false, not, _&&_};
+ghost use mathlib.Core.Bool.{false, not};
 ghost use mathlib.Core.List.{List, [], _∷_, _++_};
 ghost use Prim.Native.Nat.{_≤_};
 ghost use lib.ListN.{length, replicate};
-ghost use lib.Dec.{leb, ltb};
 ghost use Rattle.format.specs.Bytes.{Bytes, sameBytes};
 ghost use Rattle.rules.specs.Tables.{Tables, publisherTypes};
 ghost use Rattle.rules.specs.Records.{isType};
@@ -146,18 +145,6 @@ struct Shares {
     some: bool,
 }
 
-fn bad(share: ShareField, most: u64) -> bool
-    ensures { λ r. ⌜ r ≡ not (share .digits && leb (share .number) most) ⌝ }
-{
-    !(share.digits & (share.number <= most))
-}
-
-fn some(share: ShareField) -> bool
-    ensures { λ r. ⌜ r ≡ (share .digits && ltb 0 (share .number)) ⌝ }
-{
-    share.digits & (0 < share.number)
-}
-
 fn read_shares(record: &[u8]) -> Shares
     requires { ⌜ Publisher (now «record») ⌝ }
     ensures { λ r. ⌜ (r .bad ≡ is30 (now («record» .entry))) × (r .some ≡ hasShare (now («record» .entry))) ⌝ }
@@ -166,8 +153,10 @@ fn read_shares(record: &[u8]) -> Shares
     let mr = ShareField::read(text::field(record, 124, 5));
     let sr = ShareField::read(text::field(record, 132, 5));
     Shares {
-        bad: bad(pr, Share::HALF) | bad(mr, Share::FULL) | bad(sr, Share::FULL),
-        some: some(pr) | some(mr) | some(sr),
+        bad: Share::over(pr, Share::HALF)
+            | Share::over(mr, Share::FULL)
+            | Share::over(sr, Share::FULL),
+        some: Share::counts(pr) | Share::counts(mr) | Share::counts(sr),
     }
 }
 

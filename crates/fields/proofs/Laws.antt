@@ -100,7 +100,7 @@ duration-is l h = rw (digits-on, digits-on) (ap isDuration (spelled 6 l h))
 
 -- ---- an ISWC
 
--- the sum of the digits b to k, behind a byte a
+-- the sum by the ten digits, one by one
 abbrev pub sumOf : (b c d e f g h i j k : ℕ) → ℕ
 sumOf b c d e f g h i j k =
     1 + digit b + 2 * digit c + 3 * digit d + 4 * digit e + 5 * digit f + 6 * digit g + 7 * digit h + 8 * digit i + 9 * digit j + digit k

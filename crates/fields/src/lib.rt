@@ -1,10 +1,10 @@
 // What a field may hold beyond digits: zeros, a date, a duration, an ISWC, a share. Where the width is fixed the bytes are looked at one
 // by one, with no loop: nearly every record has shares or dates.
 ghost use mathlib.Core.Path.{_≡_};
-ghost use mathlib.Core.Bool.{cond, _&&_};
+ghost use mathlib.Core.Bool.{not, cond, _&&_};
 ghost use mathlib.Core.List.{[], _∷_};
 ghost use Prim.Native.Nat.{_+_, _-_, _≤_};
-ghost use lib.Dec.{leb};
+ghost use lib.Dec.{leb, ltb};
 ghost use lib.ListN.{length};
 ghost use Rattle.format.specs.Fields.{fieldOf, areDigits, numberOf};
 ghost use Rattle.rules.specs.Values.{areZeros, leapYear, daysIn, isDay, isDate, isDuration, iswcSum, isIswc, fullShare, largestTolerance, shareOf, badShare};
@@ -199,13 +199,26 @@ impl Share {
         }
     }
 
-    // Whether a share field isn't five digits, or is over the most.
+    // Whether a share that was read isn't five digits, or is over the most.
+    pub fn over(read: ShareField, most: u64) -> bool
+        ensures { λ r. ⌜ r ≡ not (read .digits && leb (read .number) most) ⌝ }
+    {
+        !(read.digits & (read.number <= most))
+    }
+
+    // Whether it counts more than 0.
+    pub fn counts(read: ShareField) -> bool
+        ensures { λ r. ⌜ r ≡ (read .digits && ltb 0 (read .number)) ⌝ }
+    {
+        read.digits & (0 < read.number)
+    }
+
+    // The first of these two, of a field.
     pub fn bad(field: &[u8], most: u64) -> bool
         requires { ⌜ length (now field) ≡ 5 ⌝ }
         ensures { λ r. ⌜ r ≡ badShare most (now (field .entry)) ⌝ }
     {
-        let five = ShareField::read(field);
-        !(five.digits & (five.number <= most))
+        Share::over(ShareField::read(field), most)
     }
 
     pub fn is_tolerance(t: u64) -> bool

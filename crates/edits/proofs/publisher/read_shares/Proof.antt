@@ -25,23 +25,23 @@ field-requires-3 c κs = search needs
 read-requires-3 : tie.Need-read-requires-3
 read-requires-3 c κs = search needs
 
-bad-requires : tie.Need-bad-requires
-bad-requires c κs = search needs
+over-requires : tie.Need-over-requires
+over-requires c κs = search needs
 
-bad-requires-2 : tie.Need-bad-requires-2
-bad-requires-2 c κs = search needs
+over-requires-2 : tie.Need-over-requires-2
+over-requires-2 c κs = search needs
 
-bad-requires-3 : tie.Need-bad-requires-3
-bad-requires-3 c κs = search needs
+over-requires-3 : tie.Need-over-requires-3
+over-requires-3 c κs = search needs
 
-some-requires : tie.Need-some-requires
-some-requires c κs = search needs
+counts-requires : tie.Need-counts-requires
+counts-requires c κs = search needs
 
-some-requires-2 : tie.Need-some-requires-2
-some-requires-2 c κs = search needs
+counts-requires-2 : tie.Need-counts-requires-2
+counts-requires-2 c κs = search needs
 
-some-requires-3 : tie.Need-some-requires-3
-some-requires-3 c κs = search needs
+counts-requires-3 : tie.Need-counts-requires-3
+counts-requires-3 c κs = search needs
 
 returns : tie.Need-returns
 unfolding is30 badShare
@@ -60,10 +60,10 @@ read-shares-spec =
     read-requires-2
     field-requires-3
     read-requires-3
-    bad-requires
-    bad-requires-2
-    bad-requires-3
-    some-requires
-    some-requires-2
-    some-requires-3
+    over-requires
+    over-requires-2
+    over-requires-3
+    counts-requires
+    counts-requires-2
+    counts-requires-3
     returns)

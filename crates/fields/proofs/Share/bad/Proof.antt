@@ -8,9 +8,12 @@ use Rattle.fields.proofs.Share.bad.Tie as tie
 read-requires : tie.Need-read-requires
 read-requires c κs = search needs
 
+over-requires : tie.Need-over-requires
+over-requires c κs = search needs
+
 returns : tie.Need-returns
 unfolding badShare
 returns c = cc
 
 pub bad-spec : {M : Type 1} → statement M
-bad-spec = tie.close (tie.spec read-requires returns)
+bad-spec = tie.close (tie.spec read-requires over-requires returns)
