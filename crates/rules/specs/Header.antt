@@ -4,7 +4,7 @@ use Rattle.format.specs.Ascii.{ascii}
 use Rattle.format.specs.Bytes.{Bytes, sameBytes}
 use Rattle.format.specs.Fields.{fieldOf, isBlank}
 use Rattle.rules.specs.Tables.{Tables, languageSize, categorySize, isIn}
-use Rattle.rules.specs.Values.{entered, areZeros, isDate, isDuration, isIswc}
+use Rattle.rules.specs.Values.{entered, areZeros, zeros, spaces, isDate, isDuration, isIswc}
 use Rattle.rules.specs.Records.{isHeader}
 
 -- ---- fields: start and size
@@ -51,9 +51,15 @@ is18 r = isHeader r && isBlank (workNumber r)
 unfoldable pub is19 : Bytes → Bool
 is19 r = isHeader r && entered (iswc r) && not (isIswc (iswc r))
 
+abbrev pub default19 : Bytes
+default19 = spaces 11
+
 -- N5, FR, zeros: copyright date not zeros and invalid
 unfoldable pub is20 : Bytes → Bool
 is20 r = isHeader r && not (areZeros (copyrightDate r)) && not (isDate (copyrightDate r))
+
+abbrev pub default20 : Bytes
+default20 = zeros 8
 
 -- N6, TR: category not in the table; a blank one never is
 unfoldable pub is21 : Tables → Bytes → Bool
@@ -66,3 +72,6 @@ is22 r = isHeader r && isSerious r && (areZeros (duration r) || not (isDuration 
 -- FR, zeros: another category, and duration invalid
 unfoldable pub is23 : Bytes → Bool
 is23 r = isHeader r && not (isSerious r) && not (isDuration (duration r))
+
+abbrev pub default23 : Bytes
+default23 = zeros 6

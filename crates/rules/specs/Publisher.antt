@@ -8,7 +8,7 @@ use Rattle.format.specs.Ascii.{ascii}
 use Rattle.format.specs.Bytes.{Bytes, sameBytes, among}
 use Rattle.format.specs.Fields.{fieldOf, isBlank, areDigits, numberOf}
 use Rattle.rules.specs.Tables.{Tables, societySize, isIn, publisherTypes}
-use Rattle.rules.specs.Values.{entered, fullShare, halfShare, shareOf, badShare}
+use Rattle.rules.specs.Values.{entered, zeros, spaces, fullShare, halfShare, shareOf, badShare}
 use Rattle.rules.specs.Records.{isType, isPublisher, only, any, lastOf}
 
 -- ---- fields: start and size
@@ -146,6 +146,12 @@ strange t f = entered f && not (isIn societySize (t .societies) f)
 unfoldable pub is36 : Tables → Bytes → Bool
 is36 t r = isPublisher r && (strange t (societyPR r) || strange t (societyMR r) || strange t (societySR r))
 
+abbrev pub default36 : Bytes
+default36 = spaces 3
+
 -- P23, FR, zeros: tax number entered, not digits
 unfoldable pub is37 : Bytes → Bool
 is37 r = isPublisher r && entered (taxNumber r) && not (areDigits (taxNumber r))
+
+abbrev pub default37 : Bytes
+default37 = zeros 9
