@@ -3,42 +3,26 @@ use mathlib.Core.Path.{_≡_, refl, sym, ap, _∙_}
 use mathlib.Core.Bool.{Bool, true, false, not, cond, _&&_, _||_, or-false, and-true}
 use mathlib.Core.Option.{Option, none, some}
 use mathlib.Core.List.{List, [], _∷_, _++_, append-nil}
-use Prim.Native.Nat.{ℕ, _+_, _<_, _≤_}
+use Prim.Native.Nat.{ℕ, _+_, _<_}
 use native.Mathlib.Numerals.{add-one}
 use native.Mathlib.Omega.{arith}
-use borrow.Author.Tests.{ne-eqb, lt-ltb, leb-true}
-use lib.Dec.{leb, eqb, ltb}
-use lib.ListN.{length, getD, length-take}
+use borrow.Author.Tests.{ne-eqb, lt-ltb}
+use lib.Dec.{eqb, ltb}
+use lib.ListN.{length, getD}
 use Rattle.format.specs.Ascii.{ascii}
 use Rattle.format.specs.Bytes.{Bytes, sameBytes}
-use Rattle.format.specs.Fields.{fieldOf, isDigit, areDigits, digit, numberOf}
+use Rattle.format.specs.Fields.{areDigits, numberOf}
 use Rattle.rules.specs.Records.{isPublisher, only, lastOf}
 use Rattle.rules.specs.Publisher.{sequenceNumber, follows, is25}
-use Rattle.kinds.proofs.Tests.{by-cases, both}
+use Rattle.format.proofs.Tests.{by-cases}
+use Rattle.rules.proofs.Fields.{field-short, two-below}
 use Rattle.fields.proofs.Laws.{spelled}
 use Rattle.edits.specs.Before.{sequenceOf, sequenceOr101, lastSequence}
 
 -- ---- two digits write a number below 100
 
-below-ten : (b : ℕ) → digit b < 10
-below-ten b =
-    by-cases (isDigit b)
-    (λ y. rw y (omega (arith, leb-true b 57 (both (leb 48 b) (leb b 57) y .1))))
-    (λ z. rw z (omega arith))
-
-two-below : (f : Bytes) → length f ≤ 2 → numberOf f < 100
-unfolding numberOf
-two-below [] h = omega arith
-two-below (a ∷ []) h = omega (arith, below-ten a)
-two-below (a ∷ b ∷ []) h = omega (arith, below-ten a, below-ten b)
-two-below (a ∷ b ∷ c ∷ f) h = absurd (omega arith)
-
-short : (start size : ℕ) (r : Bytes) → length (fieldOf start size r) ≤ size
-unfolding fieldOf
-short start size r = rw length-take (omega arith)
-
-number-below : (r : Bytes) → numberOf (sequenceNumber r) < 100
-number-below r = two-below (sequenceNumber r) (short 20 2 r)
+pub sequence-below : (r : Bytes) → numberOf (sequenceNumber r) < 100
+sequence-below r = two-below (sequenceNumber r) (field-short 20 2 r)
 
 module _ (r : Bytes) where
   digits-number : areDigits (sequenceNumber r) ≡ true → sequenceOf r ≡ numberOf (sequenceNumber r)
@@ -61,11 +45,11 @@ module _ (r : Bytes) where
       by-cases (areDigits (sequenceNumber p))
       (λ y. by-cases (areDigits (sequenceNumber r))
       (λ z.
-      let n = number-below p in
-      let m = number-below r in
+      let n = sequence-below p in
+      let m = sequence-below r in
       rw (digits-number p y, digits-number r z, y, z, ne-eqb (numberOf (sequenceNumber p)) 101 (λ e. omega arith), lt-ltb (numberOf (sequenceNumber p)) 100 n, lt-ltb (numberOf (sequenceNumber r)) 100 m, add-one))
       (λ z.
-      let n = number-below p in
+      let n = sequence-below p in
       rw (digits-number p y, no-digits-100 r z, y, z, ne-eqb (numberOf (sequenceNumber p)) 101 (λ e. omega arith), lt-ltb (numberOf (sequenceNumber p)) 100 n)))
       (λ y. rw (no-digits-100 p y, y))
 

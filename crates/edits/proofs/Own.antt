@@ -12,7 +12,7 @@ use Rattle.rules.specs.Publisher.{is25, is26, is27, is28, is29, is30, is31, is3
 use Rattle.rules.specs.Writer.{is38, is39, is40, is41, is42}
 use Rattle.rules.specs.Other.{is24, is43, is44, is45, is46}
 use Rattle.rules.specs.Findings.{ownFindings, setOf, level, worst}
-use Rattle.kinds.proofs.Tests.{by-cases}
+use Rattle.format.proofs.Tests.{by-cases}
 use Rattle.edits.proofs.Types.{not-other, not-third, or-right}
 
 -- ---- what a record is not

@@ -7,7 +7,7 @@ use lib.Dec.{eqb}
 use lib.ListN.{length, getD, take}
 use borrow.Author.Tests.{eqb-true, eq-eqb, ne-eqb}
 use Rattle.format.specs.Bytes.{Bytes, sameBytes}
-use Rattle.kinds.proofs.Tests.{by-cases, both, same→eq}
+use Rattle.format.proofs.Tests.{by-cases, both, same→eq}
 use Rattle.kinds.proofs.Laws.{first-three}
 use Rattle.edits.proofs.Levels.{clash}
 

@@ -1,17 +1,15 @@
 -- The tree of a file's records (specs/Tree): its leaves are the records again, and with the number positions cut out it is the content that
 -- demand 3 speaks of. Then the laws of a walk: where a transaction and a group end, what is left is the tree of what is left. Assumes nothing.
-use Prim.Native.Nat.{ℕ}
 use mathlib.Core.Path.{_≡_, refl, sym, ap, _∙_, subst}
 use mathlib.Core.Bool.{Bool, true, false}
-use mathlib.Core.List.{List, [], _∷_, _++_, map, append-assoc, map-append, map-map, map-id}
+use mathlib.Core.List.{List, [], _∷_, _++_, map, append-assoc, map-append}
 use lib.ListN.{length-map}
 use Rattle.format.specs.Bytes.{Bytes, All}
 use Rattle.format.specs.Doc.{Doc, Group, Transaction, recordsT, transactionsOf, recordsOf, write}
-use Rattle.format.specs.Table.{Class, hdr, grh, head, detail, grt, trl, unknown, Table}
+use Rattle.format.specs.Table.{Class, detail, grt, trl, unknown, Table}
 use Rattle.format.specs.WellFormed.{Item, item, itemsT, itemsG, items, WellFormed}
 use Rattle.format.specs.Checks.{cls, cut, check7}
-use Rattle.format.specs.Structure.{firstOf}
-use Rattle.format.specs.Tree.{span, after, lastOf, isGRH, isHead, isDetail, isInside, transactionsIn, groupsIn, tree, recordsInT, recordsInG, leaves, cutT, cutG, numberless}
+use Rattle.format.specs.Tree.{span, after, lastOf, isDetail, isInside, transactionsIn, groupsIn, tree, recordsInT, recordsInG, leaves, cutT, cutG, numberless}
 use Rattle.format.specs.Numbering.{held}
 use Rattle.format.specs.Claims.{lengths, Grows}
 use Rattle.format.proofs.Logic.{All-append}

@@ -1,4 +1,5 @@
 pub mod Logic
+pub mod Tests
 pub mod Decimal
 pub mod Lines
 pub mod Slots

@@ -1,17 +1,17 @@
 -- No refusal's place passes the file's size limit, and no count of records theirs. Assumes nothing.
 use Prim.Native.Nat.{ℕ, suc, _+_, _≤_}
 use native.Mathlib.Omega.{arith}
-use mathlib.Core.Path.{_≡_, refl, sym, ap, _∙_}
+use mathlib.Core.Path.{_≡_, refl}
 use mathlib.Core.Bool.{Bool, true, false, cond}
 use mathlib.Core.Option.{Option, none, some}
-use mathlib.Core.List.{List, [], _∷_, _++_}
+use mathlib.Core.List.{List, [], _∷_}
 use lib.ListN.{length, length-append}
 use lib.Dec.{eqb, leb, leb→le}
 use Rattle.format.specs.Bytes.{Bytes, isText}
 use Rattle.format.specs.Table.{Class, hdr, grh, head, detail, grt, trl, unknown, Table}
 use Rattle.format.specs.Lines.{Reading, text, cr, fault, byte, readFrom, ended, Lines, good, bad, lines}
 use Rattle.format.specs.Checks.{Check, faultFrom, faultOf, Counts, zeros, count, cls, check6, check7, check8, check9, countFrom}
-use Rattle.format.specs.Structure.{Answer, refused, passed, refusal, unless, mostBytes, mostRecords, firstOf, countsOf, ofLines, ofFile, versioned, judged, structure}
+use Rattle.format.specs.Structure.{Answer, refusal, unless, mostBytes, mostRecords, firstOf, ofLines, ofFile, versioned, judged, structure}
 use Rattle.format.specs.Numbering.{placed, numbering}
 use Rattle.format.specs.Claims.{Near, Nearby}
 use Rattle.format.proofs.Logic.{is-T}

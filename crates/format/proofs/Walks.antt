@@ -1,20 +1,16 @@
 -- The tree of a file's records as a walk meets it: a transaction is its header and the details up to the first record that is none, a group
 -- ends with the first record that is neither header nor detail, and what is left behind either is the tree of what is left. Assumes nothing.
-use mathlib.Core.Path.{_≡_, refl, sym, ap, _∙_}
-use mathlib.Core.Bool.{Bool, true, false, _||_}
+use mathlib.Core.Path.{_≡_, refl, ap, _∙_}
+use mathlib.Core.Bool.{Bool, true, false}
 use mathlib.Core.List.{List, [], _∷_, _++_}
-use lib.Dec.{T}
 use Rattle.format.specs.Bytes.{Bytes}
-use Rattle.format.specs.Table.{Class, grh, head, detail, Table}
+use Rattle.format.specs.Table.{head, detail, Table}
 use Rattle.format.specs.Checks.{is, cls}
 use Rattle.format.specs.Structure.{firstOf}
 use Rattle.format.specs.Tree.{span, after, isGRH, isHead, isDetail, isInside, transactionsIn, groupsIn}
 use Rattle.format.proofs.Logic.{is-T}
+use Rattle.format.proofs.Tests.{by-cases}
 use Rattle.format.proofs.Tree.{is→eq}
-
-by-cases : {X : Type 0} (b : Bool) → (b ≡ true → X) → (b ≡ false → X) → X
-by-cases true f g = f refl
-by-cases false f g = g refl
 
 -- ---- spans within spans
 

@@ -9,9 +9,9 @@ use lib.ListN.{replicate, drop}
 use borrow.Author.Tests.{leb-true, leb-false, eqb-true, ne-eqb}
 use Rattle.format.specs.Bytes.{Bytes, sameBytes}
 use Rattle.rules.specs.Tables.{Tables}
-use Rattle.rules.specs.Findings.{ownFindings, setOf, Level, FR, RR, TR, level, verdict, larger, worstFrom, worst}
+use Rattle.rules.specs.Findings.{ownFindings, setOf, FR, RR, TR, level, verdict, larger, worstFrom, worst}
 use Rattle.rules.specs.Verdicts.{rejectsFrom, rejects}
-use Rattle.kinds.proofs.Tests.{by-cases}
+use Rattle.format.proofs.Tests.{by-cases}
 use Rattle.edits.specs.declared.Found.{Found}
 use Rattle.heads.specs.Headed.{Gathered}
 

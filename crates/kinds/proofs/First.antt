@@ -13,7 +13,7 @@ use borrow.Author.Tests.{not-true}
 use Rattle.format.specs.Bytes.{Bytes, sameBytes}
 use Rattle.kinds.specs.Rows.{typeOf, noRow, firstOf}
 use Rattle.kinds.specs.declared.Row.{Row}
-use Rattle.kinds.proofs.Tests.{by-cases, both, same→eq}
+use Rattle.format.proofs.Tests.{by-cases, both, same→eq}
 
 -- ---- one turn of a search at i, where the rows from i on decide
 

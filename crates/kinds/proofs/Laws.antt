@@ -16,7 +16,7 @@ use Rattle.format.specs.Checks.{code, cls}
 use Rattle.format.specs.Stages.{stages, spots, begins}
 use Rattle.kinds.specs.Rows.{codeRow, kinds, rowFor, typeOf, noRow, firstOf, spotsOf, sorts, sortFrom, sortOf}
 use Rattle.kinds.specs.declared.Row.{Row}
-use Rattle.kinds.proofs.Tests.{by-cases, both, same→eq}
+use Rattle.format.proofs.Tests.{by-cases, both, same→eq}
 use Rattle.kinds.proofs.First.{has, distinct, only, short}
 use Rattle.kinds.proofs.Spots.{sameSpots, sameSpots→eq, stageListed, no-spots, begins-none, no-sort-of}
 

@@ -1,4 +1,3 @@
-pub mod Tests
 pub mod First
 pub mod Spots
 pub mod Laws

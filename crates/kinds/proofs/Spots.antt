@@ -9,7 +9,7 @@ use borrow.Author.Tests.{eqb-true}
 use Rattle.format.specs.Bytes.{Bytes, every, sameBytes, among}
 use Rattle.format.specs.Stages.{Spot, spot, Stage, stage, inBrackets, spotsIn, spotsFrom, amongAny, beginsAny}
 use Rattle.kinds.specs.Rows.{sortFrom}
-use Rattle.kinds.proofs.Tests.{by-cases, both, same→eq}
+use Rattle.format.proofs.Tests.{by-cases, both, same→eq}
 
 unfoldable pub sameSpots : List Spot → List Spot → Bool
 sameSpots [] [] = true

@@ -7,7 +7,7 @@ use native.Mathlib.Nat.{mul-suc, mul-zero, mul-comm, sub-zero, mul-le-mul, mul-l
 use native.Mathlib.Numerals.{add-one}
 use native.Mathlib.Omega.{arith}
 use borrow.Author.Tests.{leb-true}
-use lib.Dec.{eqb, leb, lit<}
+use lib.Dec.{eqb, lit<}
 use lib.ListN.{length, take, drop, getD, set, replicate, length-set, length-replicate, replicate-append-replicate}
 use lib.Seq.{drop-drop, getD-set-same, take-all, take-suc-set}
 use Rattle.format.specs.Bytes.{Bytes, sameBytes, among}

@@ -16,7 +16,7 @@ use Rattle.rules.specs.Writers.{creators, changers, authors}
 use Rattle.rules.specs.Works.{several}
 use Rattle.rules.proofs.Lists.{only-kept, only-left, any-last}
 use Rattle.rules.proofs.Types.{type-is, of-two}
-use Rattle.kinds.proofs.Tests.{by-cases}
+use Rattle.format.proofs.Tests.{by-cases}
 use Rattle.marks.specs.declared.Marks.{Marks}
 use Rattle.marks.specs.Marked.{isInstrument, Marked}
 

@@ -10,9 +10,9 @@ use borrow.Author.Tests.{eqb-true}
 use lib.ListN.{take}
 use Rattle.format.specs.Ascii.{ascii}
 use Rattle.format.specs.Bytes.{Bytes, sameBytes, every}
-use Rattle.format.specs.Table.{Class, detail, Row as FormatRow, row, rowOf, noType, classOf}
+use Rattle.format.specs.Table.{Class, detail, Row as FormatRow, row, classOf}
 use Rattle.format.specs.Cwr22.{rows22, cwr22}
-use Rattle.format.specs.Checks.{is, cls, code}
+use Rattle.format.specs.Checks.{is, cls}
 use Rattle.format.specs.Stages.{Spot, spot, spots, begins, stages}
 use Rattle.rules.specs.Records.{only}
 use Rattle.rules.specs.Other.{is24}
@@ -21,7 +21,7 @@ use Rattle.rules.proofs.Lists.{only-kept, only-left}
 use Rattle.kinds.specs.Rows.{codeRow, column, spotsOf, sortOf, rowFor}
 use Rattle.kinds.specs.declared.Row.{Row}
 use Rattle.kinds.proofs.Laws.{row-cases, stage-spots, alone-begins}
-use Rattle.kinds.proofs.Tests.{by-cases}
+use Rattle.format.proofs.Tests.{by-cases}
 use Rattle.order.specs.declared.Order.{Order}
 use Rattle.order.specs.Standing.{standing}
 

@@ -37,6 +37,9 @@ pub number-below : (f : Bytes) → numberOf f < 10 ^ length f
 unfolding numberOf
 number-below f = omega (arith, number-from-below 0 f)
 
+pub two-below : (f : Bytes) → length f ≤ 2 → numberOf f < 100
+two-below f h = omega (arith, number-below f, pow-le-pow-right {n = 10} (lit< tt) {i = length f} {j = 2} h)
+
 -- a share of five bytes at most
 pub share-most : (f : Bytes) → length f ≤ 5 → shareOf f ≤ 99999
 unfolding shareOf

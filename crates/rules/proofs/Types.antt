@@ -1,6 +1,6 @@
 -- A record of one type is of no other. Assumes nothing.
 use Prim.Native.String.{String}
-use mathlib.Core.Path.{_≡_, refl, sym, ap, _∙_}
+use mathlib.Core.Path.{_≡_, refl, sym}
 use mathlib.Core.Bool.{Bool, true, false, _||_}
 use lib.ListN.{take}
 use Rattle.format.specs.Ascii.{ascii}

@@ -1,5 +1,5 @@
 -- Findings on a publisher record, SPU or OPU. Two of them look at the records before it in its transaction.
-use Prim.Native.Nat.{ℕ, suc}
+use Prim.Native.Nat.{suc}
 use mathlib.Core.Bool.{Bool, not, cond, _&&_, _||_}
 use mathlib.Core.Option.{Option, none, some}
 use mathlib.Core.List.{List}

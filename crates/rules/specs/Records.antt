@@ -1,6 +1,6 @@
 -- The types of records, and the records before one in its transaction.
 use Prim.Native.String.{String}
-use mathlib.Core.Bool.{Bool, true, false, cond, _||_}
+use mathlib.Core.Bool.{Bool, false, cond, _||_}
 use mathlib.Core.Option.{Option, none, some}
 use mathlib.Core.List.{List, [], _∷_}
 use lib.ListN.{take}

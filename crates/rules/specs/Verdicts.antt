@@ -6,7 +6,7 @@ use lib.Dec.{eqb}
 use Rattle.format.specs.Bytes.{Bytes}
 use Rattle.format.specs.Doc.{Doc, Group, Transaction}
 use Rattle.rules.specs.Tables.{Tables}
-use Rattle.rules.specs.Findings.{Level, TR, setOf, bytesOf, level, verdict, larger, worst}
+use Rattle.rules.specs.Findings.{TR, setOf, bytesOf, level, verdict, larger, worst}
 use Rattle.rules.specs.Works.{namedType, is0, transactionFindings}
 
 -- one list behind the other

@@ -1,5 +1,4 @@
 -- Findings on the writers of a transaction, by their designations with the default of 40 in force.
-use Prim.Native.String.{String}
 use mathlib.Core.Bool.{Bool, not, _&&_}
 use mathlib.Core.List.{List, [], _∷_}
 use Rattle.format.specs.Ascii.{ascii}

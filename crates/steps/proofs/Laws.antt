@@ -1,12 +1,10 @@
 -- What a publisher record's sequence number says of its chain, and what a row's sort says of its record. Assumes nothing.
-use Prim.Native.Nat.{ℕ, suc, _+_, _^_, _<_, _≤_}
+use Prim.Native.Nat.{ℕ, _+_, _<_, _≤_}
 use Prim.Native.String.{String}
-use native.Mathlib.Nat.{pow-le-pow-right}
 use native.Mathlib.Omega.{arith}
 use mathlib.Core.Path.{_≡_, refl, sym, ap, _∙_}
-use mathlib.Core.Bool.{Bool, true, false, cond, _||_, or-false, or-true}
-use mathlib.Core.List.{List, [], _∷_}
-use lib.Dec.{lit<}
+use mathlib.Core.Bool.{Bool, true, false, _||_, or-false, or-true}
+use mathlib.Core.List.{List}
 use lib.ListN.{length, take}
 use Rattle.format.specs.Ascii.{ascii}
 use Rattle.format.specs.Bytes.{Bytes}
@@ -19,11 +17,10 @@ use Rattle.rules.specs.Records.{isType, isPublisher, isWriter}
 use Rattle.rules.specs.Publisher.{sequenceNumber}
 use Rattle.rules.specs.Other.{is24}
 use Rattle.rules.specs.Chains.{inChain, allShares}
-use Rattle.rules.proofs.Fields.{field-short, number-below}
 use Rattle.rules.proofs.Types.{type-is, of-two}
 use Rattle.kinds.specs.Rows.{rowFor, sortOf}
 use Rattle.kinds.specs.declared.Row.{Row}
-use Rattle.kinds.proofs.Tests.{by-cases}
+use Rattle.format.proofs.Tests.{by-cases}
 use Rattle.kinds.proofs.Laws.{sort-is, of-sort}
 use Rattle.marks.specs.Marked.{isInstrument}
 use Rattle.chains.proofs.Laws.{in-chain}
@@ -31,15 +28,12 @@ use Rattle.edits.specs.declared.Found.{Found}
 use Rattle.edits.specs.Kinds.{Writer, Version, Performer, Recording}
 use Rattle.edits.specs.Before.{sequenceOf}
 use Rattle.edits.specs.Judged.{Judged}
+use Rattle.edits.proofs.Before.{sequence-below}
 use Rattle.edits.proofs.Own.{NoHeader, No24, NoPublisher, NoWriter, No43, NoRecording, nothing, nothing-worst}
 use Rattle.steps.specs.declared.Publisher.{Publisher}
 use Rattle.steps.specs.Stepped.{Reads}
 
 -- ---- chains
-
-two-digits-most : (r : Bytes) → numberOf (sequenceNumber r) < 100
-two-digits-most r =
-    omega (arith, number-below (sequenceNumber r), pow-le-pow-right {n = 10} (lit< tt) {i = length (sequenceNumber r)} {j = 2} (field-short 20 2 r))
 
 sequence-digits : (r : Bytes) → sequenceOf r < 100 → (areDigits (sequenceNumber r) ≡ true) × (numberOf (sequenceNumber r) ≡ sequenceOf r)
 unfolding sequenceOf
@@ -48,7 +42,7 @@ sequence-digits r h =
 
 sequence-none : (r : Bytes) → (sequenceOf r < 100 → ⊥) → areDigits (sequenceNumber r) ≡ false
 unfolding sequenceOf
-sequence-none r h = by-cases (areDigits (sequenceNumber r)) (λ e. absurd (h (rw e (two-digits-most r)))) (λ e. e)
+sequence-none r h = by-cases (areDigits (sequenceNumber r)) (λ e. absurd (h (rw e (sequence-below r)))) (λ e. e)
 
 module _ (p : Publisher) (r : Bytes) (reads : Reads p r) where
   pub chained : p .sequence < 100 → inChain (p .sequence) r ≡ true

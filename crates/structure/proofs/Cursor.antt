@@ -1,11 +1,10 @@
 -- Laws of `Here`: a file that passes, or that numbering takes, is walked from its first byte; at each place the row of the three bytes that
 -- stand there tells the record and the place of the next; where no byte is left no record is. Assumes nothing.
-use Prim.Native.Nat.{ℕ, _+_, _≤_, _<_}
+use Prim.Native.Nat.{ℕ, _≤_, _<_}
 use native.Mathlib.Omega.{arith}
-use mathlib.Core.Path.{_≡_, refl, sym, ap, _∙_, subst}
-use mathlib.Core.Bool.{true, false}
+use mathlib.Core.Path.{_≡_, sym, ap, _∙_, subst}
 use mathlib.Core.List.{List, [], _∷_}
-use lib.ListN.{length, take, drop, drop-of-length-le, length-drop}
+use lib.ListN.{length, take, drop, drop-of-length-le}
 use lib.Seq.{take-take}
 use lib.Dec.{leb}
 use borrow.Author.Tests.{leb-true, leb-false}
@@ -13,18 +12,18 @@ use Rattle.format.specs.Bytes.{Bytes}
 use Rattle.format.specs.Table.{Class, unknown}
 use Rattle.format.specs.Cwr22.{cwr22}
 use Rattle.format.specs.Lines.{good, lines}
-use Rattle.format.specs.Checks.{check6, check7, cls, mayFollow, classAt}
+use Rattle.format.specs.Checks.{check6, cls, mayFollow}
 use Rattle.format.specs.Numbering.{recordsIn}
 use Rattle.format.proofs.Logic.{is-true}
-use Rattle.format.proofs.Passes.{Along, AlongFrom}
+use Rattle.format.proofs.Passes.{Along}
 use Rattle.format.proofs.Answers.{Placed}
 use Rattle.kinds.specs.declared.Row.{Row}
 use Rattle.kinds.specs.Rows.{rowFor}
-use Rattle.kinds.proofs.Tests.{by-cases}
+use Rattle.format.proofs.Tests.{by-cases}
 use Rattle.lines.specs.Scan.{textLength}
 use Rattle.structure.specs.Rest.{isGood}
 use Rattle.structure.specs.Cursor.{Here, First}
-use Rattle.structure.proofs.Here.{recordAt, fits, long, records-here, fine-behind, all-behind, here-three, row-size, row-is}
+use Rattle.structure.proofs.Here.{recordAt, fits, long, records-here, fine-behind, here-three, row-size, row-is}
 
 -- ---- the start
 

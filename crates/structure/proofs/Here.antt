@@ -22,7 +22,7 @@ use Rattle.format.proofs.Slots.{three}
 use Rattle.format.proofs.Passes.{Along}
 use Rattle.kinds.specs.Rows.{rowFor}
 use Rattle.kinds.specs.declared.Row.{Row}
-use Rattle.kinds.proofs.Tests.{by-cases}
+use Rattle.format.proofs.Tests.{by-cases}
 use Rattle.lines.specs.Scan.{textLength}
 use Rattle.lines.proofs.Laws.{text-front, line-first, line-fault, pair-behind, pair-fits}
 use Rattle.structure.specs.Rest.{isGood}

@@ -17,7 +17,7 @@ use Rattle.format.specs.Checks.{Counts, zeros, count, classAt, cls, typed, mayF
 use Rattle.format.specs.Structure.{unless}
 use Rattle.kinds.specs.Rows.{kinds, rowFor, typeOf}
 use Rattle.kinds.specs.declared.Row.{Row}
-use Rattle.kinds.proofs.Tests.{both}
+use Rattle.format.proofs.Tests.{both}
 use Rattle.kinds.proofs.Laws.{first-three, hinted}
 use Rattle.lines.proofs.Laws.{every-text, pair-behind}
 use Rattle.numbers.specs.Tally.{tally, Kept}

@@ -14,7 +14,7 @@ use Rattle.format.specs.Lines.{Lines, good, bad, lines}
 use Rattle.format.specs.Checks.{Counts, zeros}
 use Rattle.format.specs.Structure.{Answer, refused, refusal, unless, mostBytes, mostRecords, firstOf, structure}
 use Rattle.format.specs.Numbering.{numbering, recordsIn}
-use Rattle.kinds.proofs.Tests.{by-cases}
+use Rattle.format.proofs.Tests.{by-cases}
 use Rattle.lines.specs.Scan.{textLength, scanned}
 use Rattle.lines.specs.declared.Scan.the-variants as scan
 use Rattle.structure.specs.Rest.{faultless, judgedFrom, linesFrom, restFrom, isGood}

@@ -1,9 +1,8 @@
 -- A tally with one detail more. Assumes nothing.
-use Prim.Native.Nat.{ℕ, suc, _+_, _*_, _^_, _≤_, _<_}
-use Prim.Native.String.{String}
+use Prim.Native.Nat.{ℕ, _+_, _*_, _^_, _≤_, _<_}
 use native.Mathlib.Omega.{arith}
-use mathlib.Core.Path.{_≡_, refl, sym, ap, _∙_, subst}
-use mathlib.Core.Bool.{Bool, true, false, _||_, or-false}
+use mathlib.Core.Path.{_≡_, refl, ap, _∙_, subst}
+use mathlib.Core.Bool.{true, false, _||_, or-false}
 use mathlib.Core.List.{List, [], _∷_, _++_}
 use lib.Dec.{eqb}
 use lib.Dec.{lit<}
@@ -14,7 +13,7 @@ use Rattle.format.specs.Structure.{mostRecords}
 use Rattle.rules.specs.Tables.{designations}
 use Rattle.rules.specs.Records.{isType, isPublisher, isWriter}
 use Rattle.rules.specs.Writers.{creators, changers, authors}
-use Rattle.rules.proofs.Types.{type-is, of-two, publisher-no-writer, writer-no-publisher}
+use Rattle.rules.proofs.Types.{of-two}
 use Rattle.totals.specs.Sums.{Below}
 use Rattle.totals.specs.declared.Totals.{Totals}
 use Rattle.marks.specs.Marked.{isInstrument}

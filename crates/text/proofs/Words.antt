@@ -1,7 +1,7 @@
 -- Words: that they keep their bytes, that two are the same where their bytes are, and how the word of a number's digits grows by one.
 use mathlib.Core.Path.{_≡_, refl, sym, ap, _∙_}
 use mathlib.Core.Bool.{Bool, true, false, _&&_, false≢true}
-use mathlib.Core.List.{List, [], _∷_, _++_}
+use mathlib.Core.List.{[], _∷_, _++_}
 use Prim.Native.Nat.{ℕ, zero, suc, _+_, _-_, _*_, _/_, _%_, _^_, _<_, _≤_}
 use native.Mathlib.Nat.{pow-succ', mul-add, mul-assoc, mul-one, mul-le-mul-left}
 use native.Mathlib.Omega.{arith}

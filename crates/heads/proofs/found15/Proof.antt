@@ -1,6 +1,5 @@
 -- `heads::found15` meets its contract. Assumes nothing.
 use Rattle.rules.specs.Works.{is15}
-use borrow.Author.Needs.{needs}
 use Rattle.heads.proofs.found15.Statement.{statement}
 use Rattle.heads.proofs.found15.Tie as tie
 

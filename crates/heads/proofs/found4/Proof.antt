@@ -1,6 +1,5 @@
 -- `heads::found4` meets its contract. Assumes nothing.
 use Rattle.rules.specs.Writers.{is4}
-use borrow.Author.Needs.{needs}
 use Rattle.heads.proofs.found4.Statement.{statement}
 use Rattle.heads.proofs.found4.Tie as tie
 

@@ -1,6 +1,5 @@
 -- `heads::found5` meets its contract. Assumes nothing.
 use Rattle.rules.specs.Writers.{is5}
-use borrow.Author.Needs.{needs}
 use Rattle.heads.proofs.found5.Statement.{statement}
 use Rattle.heads.proofs.found5.Tie as tie
 

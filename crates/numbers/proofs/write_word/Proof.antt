@@ -3,7 +3,6 @@
 use mathlib.Core.Path.{ap, _∙_}
 use Prim.Native.Nat.{_+_, _-_}
 use borrow.Rule.Slice.PartMut.{putMid}
-use lib.ListN.{length-take, length-drop}
 use Rattle.format.specs.Bytes.{Bytes}
 use Rattle.text.specs.Words.{bytesOf}
 use Rattle.text.proofs.Words.{length-bytes}

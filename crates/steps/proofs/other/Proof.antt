@@ -1,6 +1,5 @@
 -- `steps::other` meets its contract: each arm knows the sort, and so the type and the length. Assumes nothing.
 use native.Mathlib.Omega.{arith}
-use mathlib.Core.Path.{_≡_}
 use borrow.Author.Needs.{needs}
 use Rattle.steps.proofs.Laws.{writer-here, ewt-here, ver-here, per-here, rec-here, is-ewt, is-ver, is-instrument, is-misplaced, not-publisher, not-writer, not-instrument, not-ewt, not-ver, none-found}
 use Rattle.steps.proofs.other.Statement.{statement}

@@ -1,8 +1,6 @@
 -- `order::Order::with` meets its contract: the first of the three columns that may be taken is where the record leads.
 -- Assumes nothing.
-use mathlib.Core.Path.{_≡_, sym, ap, _∙_}
-use mathlib.Core.Bool.{cond}
-use mathlib.Core.Option.{none, some}
+use mathlib.Core.Path.{sym, _∙_}
 use borrow.Author.Needs.{needs}
 use Rattle.order.proofs.Laws.{either-none, stays, goes}
 use Rattle.order.proofs.Order.with.Statement.{statement}

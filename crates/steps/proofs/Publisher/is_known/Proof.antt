@@ -1,5 +1,5 @@
 -- `steps::Publisher::is_known` meets its contract. Assumes nothing.
-use mathlib.Core.Path.{sym, _∙_}
+use mathlib.Core.Path.{sym}
 use borrow.Author.Needs.{needs}
 use Rattle.rules.specs.Publisher.{earlierE}
 use Rattle.chains.proofs.Laws.{knows-none}

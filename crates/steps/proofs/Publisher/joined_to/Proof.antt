@@ -1,6 +1,5 @@
 -- `steps::Publisher::joined_to` meets its contract. Assumes nothing.
-use mathlib.Core.Path.{sym, ap, _∙_}
-use native.Mathlib.Omega.{arith}
+use mathlib.Core.Path.{sym}
 use borrow.Author.Needs.{needs}
 use Rattle.chains.proofs.Laws.{no-number}
 use Rattle.steps.proofs.Laws.{chained, unchained, summed}
