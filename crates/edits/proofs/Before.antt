@@ -3,7 +3,7 @@ use mathlib.Core.Path.{_≡_, refl, sym, ap, _∙_}
 use mathlib.Core.Bool.{Bool, true, false, not, cond, _&&_, _||_, or-false, and-true}
 use mathlib.Core.Option.{Option, none, some}
 use mathlib.Core.List.{List, [], _∷_, _++_, append-nil}
-use Prim.Native.Nat.{ℕ, _+_, _<_}
+use Prim.Native.Nat.{ℕ, _+_, _<_, _≤_}
 use native.Mathlib.Numerals.{add-one}
 use native.Mathlib.Omega.{arith}
 use borrow.Author.Tests.{ne-eqb, lt-ltb}
@@ -87,3 +87,17 @@ last-more before r =
     ∙ by-cases (isPublisher r)
     (λ y. rw y (ap sequenceOr101 (last-append (only isPublisher before) r)))
     (λ z. rw z (ap (λ (xs : List Bytes). sequenceOr101 (lastOf xs)) (append-nil (only isPublisher before))))
+
+-- ---- it is at most 101
+
+sequence-most : (r : Bytes) → sequenceOf r ≤ 101
+unfolding sequenceOf
+sequence-most r = by-cases (areDigits (sequenceNumber r)) (λ e. rw e (omega (arith, sequence-below r))) (λ e. rw e (omega arith))
+
+or-most : (o : Option Bytes) → sequenceOr101 o ≤ 101
+or-most none = omega arith
+or-most (some p) = sequence-most p
+
+pub last-most : (before : List Bytes) → lastSequence before ≤ 101
+unfolding lastSequence
+last-most before = or-most (lastOf (only isPublisher before))

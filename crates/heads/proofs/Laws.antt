@@ -80,7 +80,7 @@ rejecting : (b : Bool) (v : ℕ) → (b && eqb v 3) ≡ eqb (cond b v 0) 3
 rejecting true v = refl
 rejecting false v = refl
 
-later-rejects : (n : ℕ) (bs : List Bool) → rejectsFrom (suc n) bs ≡ eqb (worstFrom (suc n) bs) 3
+pub later-rejects : (n : ℕ) (bs : List Bool) → rejectsFrom (suc n) bs ≡ eqb (worstFrom (suc n) bs) 3
 later-rejects n [] = refl
 later-rejects n (b ∷ bs) =
     let v = verdict (level (suc n)) in

@@ -29,10 +29,6 @@ use Rattle.structure.proofs.Turns.{bounded-start, bounded-on}
 use Rattle.structure.proofs.Here.{recordAt, fits, here-three, long, records-here, fine-behind, all-behind, line-here, row-size, row-numbers, row-is}
 use Rattle.numbering.specs.Fill.{Sized}
 
--- the part of a file from a place on
-pub to-end : (f : Bytes) (i : ℕ) → take (length f - i) (drop i f) ≡ drop i f
-to-end f i = take-all (length f - i) (drop i f) (omega (arith, length-drop i f))
-
 -- ---- a line that was copied whole
 
 copied : (l o x : Bytes) → length o ≡ length l → x ≡ take (length l) l ++ drop (length l) o → x ≡ l

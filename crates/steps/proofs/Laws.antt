@@ -14,18 +14,20 @@ use Rattle.format.specs.Checks.{code, cls}
 use Rattle.format.specs.Fields.{areDigits, numberOf}
 use Rattle.rules.specs.Tables.{Tables}
 use Rattle.rules.specs.Records.{isType, isPublisher, isWriter}
-use Rattle.rules.specs.Publisher.{sequenceNumber}
+use Rattle.rules.specs.Publisher.{sequenceNumber, sharePR, shareMR, shareSR}
 use Rattle.rules.specs.Other.{is24}
 use Rattle.rules.specs.Chains.{inChain, allShares}
+use Rattle.rules.proofs.Fields.{field-short, share-most}
 use Rattle.rules.proofs.Types.{type-is, of-two}
 use Rattle.kinds.specs.Rows.{rowFor, sortOf}
 use Rattle.kinds.specs.declared.Row.{Row}
 use Rattle.format.proofs.Tests.{by-cases}
 use Rattle.kinds.proofs.Laws.{sort-is, of-sort}
+use Rattle.totals.specs.Sums.{AtMost}
 use Rattle.marks.specs.Marked.{isInstrument}
 use Rattle.chains.proofs.Laws.{in-chain}
 use Rattle.edits.specs.declared.Found.{Found}
-use Rattle.edits.specs.Kinds.{Writer, Version, Performer, Recording}
+use Rattle.edits.specs.Kinds.{Publisher as IsPublisher, Writer, Version, Performer, Recording}
 use Rattle.edits.specs.Before.{sequenceOf}
 use Rattle.edits.specs.Judged.{Judged}
 use Rattle.edits.proofs.Before.{sequence-below}
@@ -52,6 +54,11 @@ module _ (p : Publisher) (r : Bytes) (reads : Reads p r) where
 
   pub unchained : 100 ≤ p .sequence → areDigits (sequenceNumber r) ≡ false
   unchained h = sequence-none r (λ l. omega (arith, reads .sequence))
+
+  pub shares-most : AtMost 99999 (p .shares)
+  shares-most =
+      rw (reads .shares)
+      (share-most (sharePR r) (field-short 116 5 r), share-most (shareMR r) (field-short 124 5 r), share-most (shareSR r) (field-short 132 5 r))
 
   pub summed : allShares r ≡ p .shares .pr + p .shares .mr + p .shares .sr
   summed = rw (reads .shares)
@@ -90,6 +97,9 @@ module _ (kind : Row) (r : Bytes) (its : kind ≡ rowFor (take 3 r)) where
   not-ver n = not-type "VER" 5 refl n
 
   -- and one of the sort is of one of its types
+  is-publisher : kind .sort ≡ 2 → isPublisher r ≡ true
+  is-publisher e = rw or-false at (of-sort (take 3 r) kind its 1 e)
+
   pub is-writer : kind .sort ≡ 3 → isWriter r ≡ true
   is-writer e = rw or-false at (of-sort (take 3 r) kind its 2 e)
 
@@ -146,6 +156,10 @@ module _ (kind : Row) (r : Bytes) (its : kind ≡ rowFor (take 3 r)) where
 
   either-sized : (a b : String) (n : ℕ) → (isType a r || isType b r) ≡ true → rowFor (ascii a) .length ≡ n → rowFor (ascii b) .length ≡ n → length r ≡ kind .length → length r ≡ n
   either-sized a b n e p q l = l ∙ ap (λ (k : Row). k .length) its ∙ of-two a b r (λ t. rowFor t .length ≡ n) p q e
+
+  pub publisher-here : length r ≡ kind .length → kind .sort ≡ 2 → IsPublisher r
+  unfolding rowFor rows22
+  publisher-here l e = (either-sized "SPU" "OPU" 183 (is-publisher e) refl refl l, is-publisher e)
 
   pub writer-here : length r ≡ kind .length → kind .sort ≡ 3 → Writer r
   unfolding rowFor rows22

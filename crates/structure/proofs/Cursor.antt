@@ -1,11 +1,11 @@
 -- Laws of `Here`: a file that passes, or that numbering takes, is walked from its first byte; at each place the row of the three bytes that
 -- stand there tells the record and the place of the next; where no byte is left no record is. Assumes nothing.
-use Prim.Native.Nat.{ℕ, _≤_, _<_}
+use Prim.Native.Nat.{ℕ, _+_, _-_, _≤_, _<_}
 use native.Mathlib.Omega.{arith}
 use mathlib.Core.Path.{_≡_, sym, ap, _∙_, subst}
 use mathlib.Core.List.{List, [], _∷_}
-use lib.ListN.{length, take, drop, drop-of-length-le}
-use lib.Seq.{take-take}
+use lib.ListN.{length, take, drop, drop-of-length-le, length-drop}
+use lib.Seq.{take-all, take-take}
 use lib.Dec.{leb}
 use borrow.Author.Tests.{leb-true, leb-false}
 use Rattle.format.specs.Bytes.{Bytes}
@@ -39,6 +39,10 @@ here-start f rs e p =
 
 -- ---- the end
 
+-- the part of a file from a place on
+pub to-end : (f : Bytes) (i : ℕ) → take (length f - i) (drop i f) ≡ drop i f
+to-end f i = take-all (length f - i) (drop i f) (omega (arith, length-drop i f))
+
 first-of : List Bytes → Bytes → Bytes
 first-of [] d = d
 first-of (r ∷ rs) d = r
@@ -65,6 +69,13 @@ module _ {f : Bytes} {i : ℕ} {c : Class} where
       by-cases (leb (length f) i)
       (λ e. absurd (nothing-some r rs (sym (nothing-left h (leb-true (length f) i e)))))
       (λ e. omega (arith, leb-false (length f) i e))
+
+  -- three bytes at the least
+  pub three-left : {r : Bytes} {rs : List Bytes} → Here f i c (r ∷ rs) → i + 3 ≤ length f
+  three-left {r} {rs} h =
+      let here = some-left h in
+      let all : Along (check6 cwr22) (recordsIn (lines (drop i f))) = subst (Along (check6 cwr22)) (sym (h .left)) (h .typed) in
+      omega (arith, here-three f i here (h .good) all, fits f i here (h .good))
 
   -- ---- one record
 

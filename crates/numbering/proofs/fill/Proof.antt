@@ -8,7 +8,8 @@ use Rattle.format.specs.Bytes.{Bytes}
 use Rattle.kinds.specs.Rows.{rowFor, shapeOf}
 use Rattle.kinds.proofs.Laws.{hinted}
 use Rattle.structure.proofs.Rows.{in-table}
-use Rattle.numbering.proofs.Laws.{to-end, Filling, filling-start, filling-end, filling-on, three-bytes, ends, room}
+use Rattle.structure.proofs.Cursor.{to-end}
+use Rattle.numbering.proofs.Laws.{Filling, filling-start, filling-end, filling-on, three-bytes, ends, room}
 use borrow.Author.Needs.{needs}
 use Rattle.numbering.proofs.fill.Statement.{statement}
 use Rattle.numbering.proofs.fill.Tie as tie

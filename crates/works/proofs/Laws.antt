@@ -1,0 +1,123 @@
+-- One detail more. Assumes nothing.
+use Prim.Native.Nat.{ℕ, suc, _+_, _*_, _≤_, _<_}
+use native.Mathlib.Omega.{arith}
+use mathlib.Core.Path.{_≡_, refl, sym, ap, _∙_, subst}
+use mathlib.Core.Bool.{Bool, true, false, not, cond, _&&_, _||_, or-assoc, or-false}
+use mathlib.Core.List.{List, [], _∷_, _++_, map, append-assoc, append-nil, map-append}
+use lib.Dec.{eqb, leb, leb·zero}
+use lib.ListN.{length, length-append, take, drop}
+use borrow.Author.Tests.{leb-true}
+use Rattle.format.specs.Bytes.{Bytes, All, every}
+use Rattle.format.specs.Table.{Class, hdr, grh, head, detail, grt, trl, unknown, Row as FormatRow, row, rowOf, noType, classOf, lenOf}
+use Rattle.format.specs.Cwr22.{rows22, cwr22}
+use Rattle.format.specs.Checks.{is, cls, check7}
+use Rattle.format.proofs.Logic.{All-append}
+use Rattle.format.proofs.Tests.{by-cases}
+use Rattle.format.proofs.Passes.{AlongFrom}
+use Rattle.rules.specs.Tables.{Tables}
+use Rattle.rules.specs.Findings.{ownFindings, larger, worstFrom, worst}
+use Rattle.rules.specs.Works.{detailsFrom}
+use Rattle.rules.specs.Verdicts.{anyOf, rejects}
+use Rattle.kinds.specs.Rows.{rowFor}
+use Rattle.kinds.specs.declared.Row.{Row}
+use Rattle.kinds.proofs.Laws.{row-cases, length-len}
+use Rattle.structure.specs.Cursor.{Here, First}
+use Rattle.chains.specs.Tallies.{Whole}
+use Rattle.chains.proofs.Laws.{whole-of}
+use Rattle.tally.specs.Known.{Known}
+use Rattle.tally.specs.declared.Tally.{Tally}
+use Rattle.edits.specs.Judged.{Judged}
+use Rattle.edits.specs.declared.Found.{Found}
+use Rattle.heads.proofs.Laws.{later-rejects}
+use Rattle.buffers.specs.Written.{Written}
+use Rattle.buffers.proofs.Entries.{kept-v, kept-f, then}
+use Rattle.works.specs.declared.Walk.{Walk}
+use Rattle.works.specs.Walk.{Room, Gone}
+
+-- ---- sets of details
+
+module _ (t : Tables) where
+  details-last : (b ds : List Bytes) (r : Bytes) → detailsFrom t b (ds ++ r ∷ []) ≡ detailsFrom t b ds ++ ownFindings t (b ++ ds) r ∷ []
+  details-last b [] r = rw (append-nil b)
+  details-last b (d ∷ ds) r =
+      ap (λ l. ownFindings t b d ∷ l)
+      (details-last (b ++ d ∷ []) ds r ∙ ap (λ l. detailsFrom t (b ++ d ∷ []) ds ++ ownFindings t l r ∷ []) (append-assoc b (d ∷ []) ds))
+
+  length-details : (b ds : List Bytes) → length (detailsFrom t b ds) ≡ length ds
+  length-details b [] = refl
+  length-details b (d ∷ ds) = ap suc (length-details (b ++ d ∷ []) ds)
+
+any-end : {A : Type 0} (p : A → Bool) (xs : List A) (x : A) → anyOf p (xs ++ x ∷ []) ≡ (anyOf p xs || p x)
+any-end p [] x = or-false (p x)
+any-end p (y ∷ xs) x = rw (any-end p xs x) (sym (or-assoc (p y) (anyOf p xs) (p x)))
+
+-- a record's own findings do not have 0, so that 3 is their largest verdict where one rejects the transaction
+larger-zero : (x : ℕ) → larger 0 x ≡ x
+larger-zero x = rw (leb·zero x)
+
+late-rejects : (bs : List Bool) → rejects (false ∷ bs) ≡ eqb (worst (false ∷ bs)) 3
+unfolding rejects worst
+late-rejects bs = later-rejects 0 bs ∙ sym (ap (λ n. eqb n 3) (larger-zero (worstFrom 1 bs)))
+
+pub own-rejects : (t : Tables) (b : List Bytes) (r : Bytes) → rejects (ownFindings t b r) ≡ eqb (worst (ownFindings t b r)) 3
+unfolding ownFindings
+own-rejects t b r = late-rejects (drop 1 (ownFindings t b r))
+
+-- ---- every detail is long enough for a sequence number
+
+lengthy : FormatRow → Bool
+lengthy (row t n c) = not (is detail c) || leb 21 n
+
+all-lengthy : every lengthy rows22 ≡ true
+unfolding rows22 lengthy
+all-lengthy = refl
+
+detail-long : (r : Bytes) → cls cwr22 r ≡ detail → 21 ≤ cwr22 .len (take 3 r)
+unfolding rows22 lengthy
+detail-long r d =
+    row-cases (λ (f : FormatRow). classOf f ≡ detail → 21 ≤ lenOf f) lengthy (take 3 r)
+    (λ n c e q. leb-true 21 n (subst (λ (k : Class). (not (is detail k) || leb 21 n) ≡ true) q e))
+    rows22 all-lengthy
+    (λ none q. absurd (subst (λ (c : Class). NotDetail c) q tt))
+    d
+  where
+    NotDetail : Class → Type 0
+    NotDetail c = cond (is detail c) ⊥ (Unit {0})
+
+pub detail-here : (r : Bytes) → cls cwr22 r ≡ detail → (kind : Row) → kind ≡ rowFor (take 3 r) → length r ≡ kind .length → 21 ≤ length r
+detail-here r d kind its long = omega (arith, detail-long r d, long, ap (λ (k : Row). k .length) its, length-len r)
+
+-- ---- one detail more
+
+-- what may follow a detail may follow a header
+as-header : (f : Bytes) (i : ℕ) (c : Class) (rs : List Bytes) → c ≡ detail → Here f i c rs → Here f i head rs
+as-header f i c rs e h = record { within = h .within; good = h .good; left = h .left; typed = h .typed; placed = go rs (subst (λ (k : Class). AlongFrom (check7 cwr22) k rs) e (h .placed)) }
+  where
+    go : (qs : List Bytes) → AlongFrom (check7 cwr22) detail qs → AlongFrom (check7 cwr22) head qs
+    go [] a = absurd a
+    go (q ∷ qs) a = a
+
+module _ (t : Tables) (f : Bytes) (first : ℕ) (ds : List Bytes) (r : Bytes) (rs : List Bytes) (w : Walk) (v₀ g₀ v g : Bytes) (before : Gone t f first ds (r ∷ rs) w v₀ g₀ v g)
+    (kind : Row) (here : First f (w .at) head kind r rs) (d : cls cwr22 r ≡ detail) where
+  pub gone-on : (found : Found) (y : Tally) (v' g' : Bytes) → Judged t ds r found → Known y (ds ++ r ∷ [])
+      → Written (w .index) (found .level ∷ []) (ownFindings t ds r ∷ []) v g v' g'
+      → Gone t f first (ds ++ r ∷ []) rs (record { at = w .at + kind .length + 2; index = w .index + 1; tally = y; rejects = w .rejects || eqb (found .level) 3 }) v₀ g₀ v' g'
+  gone-on found y v' g' j k n =
+      let sets = detailsFrom t [] ds in
+      let own = ownFindings t ds r in
+      let last : detailsFrom t [] (ds ++ r ∷ []) ≡ sets ++ own ∷ [] = details-last t [] ds r in
+      let i : w .index ≡ first + length sets = before .index ∙ ap (λ m. first + m) (sym (length-details t [] ds)) in
+      let both : Written first (map worst sets ++ found .level ∷ []) (sets ++ own ∷ []) v₀ g₀ v' g' = then (before .written) (subst (λ (m : ℕ). Written m (found .level ∷ []) (own ∷ []) v g v' g') i n) in
+      record {
+        here = as-header f _ (cls cwr22 r) rs d (here .next);
+        room = record {
+          few = omega (arith, before .room .few);
+          inV = omega (arith, before .room .inV, kept-v n);
+          inF = omega (arith, before .room .inF, kept-f n);
+        };
+        index = omega (arith, before .index, length-append ds (r ∷ []));
+        known = k;
+        whole = All-append Whole ds (r ∷ []) (before .whole) (whole-of r (detail-here r d kind (here .own) (here .long)), tt);
+        rejects = rw (last, any-end rejects sets own, own-rejects t ds r, before .rejects, j .level);
+        written = rw (last, map-append worst sets (own ∷ []), ← j .level) both;
+      }

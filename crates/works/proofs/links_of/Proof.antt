@@ -1,0 +1,13 @@
+-- `works::links_of` meets its contract. Assumes nothing.
+use borrow.Author.Needs.{needs}
+use Rattle.works.proofs.links_of.Statement.{statement}
+use Rattle.works.proofs.links_of.Tie as tie
+
+shareless-requires : tie.Need-shareless-requires
+shareless-requires c κs = search needs
+
+returns : tie.Need-returns
+returns c ds t = record { many = t .many; shareless = c .shareless .ensures ds t; joined = t .joined; behind = t .behind }
+
+pub links-of-spec : {M : Type 1} → statement M
+links-of-spec = tie.close (tie.spec shareless-requires returns)

@@ -1,0 +1,124 @@
+// One transaction of a file that is right by 3 to 10: its details are judged and counted one by one, then its header is judged by what
+// was counted. Each record's set and verdict is written as it comes.
+use buffers::settle;
+use chains::Chains;
+use edits::TR;
+use heads::Links;
+use kinds::DETAIL;
+use kinds::PUBLISHER;
+use kinds::Row;
+use steps::Publisher;
+use steps::Step;
+use tally::Tally;
+ghost use mathlib.Core.Path.{_≡_};
+ghost use mathlib.Core.List.{List, [], _∷_, _++_};
+ghost use Prim.Native.Nat.{ℕ, _+_, _*_, _<_, _≤_};
+ghost use lib.ListN.{length};
+ghost use Rattle.format.specs.Bytes.{Bytes};
+ghost use Rattle.format.specs.Table.{head, detail};
+ghost use Rattle.format.specs.Cwr22.{cwr22};
+ghost use Rattle.format.specs.Checks.{cls};
+ghost use Rattle.format.specs.Structure.{mostBytes};
+ghost use Rattle.rules.specs.Tables.{Tables};
+ghost use Rattle.lookup.specs.Index.{Indexed};
+ghost use Rattle.chains.specs.Tallies.{Tallied};
+ghost use Rattle.heads.specs.Headed.{Linked};
+ghost use Rattle.structure.specs.Cursor.{Here, First};
+ghost use Rattle.steps.specs.Stepped.{Stepped};
+ghost use Rattle.works.specs.Walk.{restAt, Room, Gone, Done};
+
+// Where the walk over a transaction's details stands: at a byte of the file, before a record of that number; what is known of the details
+// so far, and whether one of them has a finding that rejects the transaction.
+pub struct Walk {
+    pub at: usize,
+    pub index: usize,
+    pub tally: Tally,
+    pub rejects: bool,
+}
+
+// Behind the last detail: what its chains have of findings 11 to 14, and the place of the record that follows.
+pub struct Details {
+    pub walk: Walk,
+    pub links: Links,
+    pub place: u8,
+}
+
+// Behind one detail more, of that row, which is written.
+fn on(w: Walk, row: Row, s: Step, verdicts: &mut [u8], findings: &mut [u8]) -> Walk
+    requires { ⌜ (w .at + row .length + 2 ≤ mostBytes) × (w .index < length (now verdicts)) × (8 * (w .index + 1) ≤ length (now findings)) ⌝ }
+    ensures { λ o. ⌜ ((t : Tables) (f : Bytes) (first : ℕ) (ds : List Bytes) (r : Bytes) (rs : List Bytes) (v g : Bytes) → Gone t f first ds (r ∷ rs) w v g (now (verdicts .entry)) (now (findings .entry)) → First f (w .at) head row r rs → cls cwr22 r ≡ detail → Stepped t ds r s → Gone t f first (ds ++ r ∷ []) rs o v g (now (verdicts .exit)) (now (findings .exit))) ⌝ }
+{
+    let i = w.index;
+    let found = s.found;
+    let more = s.tally;
+    settle(i, found.set, found.level, verdicts, findings);
+    Walk {
+        at: w.at + row.size() + 2,
+        index: i + 1,
+        tally: more,
+        rejects: w.rejects | (found.level == TR),
+    }
+}
+
+// The details that stand here, behind a header; the first of them is that record of the file.
+pub fn judge_details(
+    file: &[u8],
+    start: usize,
+    first: usize,
+    societies: &[u8],
+    slots: &[u16],
+    verdicts: &mut [u8],
+    findings: &mut [u8],
+) -> Details
+    requires { ⌜ (length (now file) ≤ mostBytes) × Here (now file) start head (restAt (now file) start) × Room first (length (restAt (now file) start)) (length (now verdicts)) (length (now findings)) ⌝ }
+    requires { ⌜ Indexed 3 (now societies) (now slots) ⌝ }
+    ensures { λ d. ⌜ ((t : Tables) → t .societies ≡ now (societies .entry) → Done t (now (file .entry)) first (restAt (now (file .entry)) start) d (now (verdicts .entry)) (now (findings .entry)) (now (verdicts .exit)) (now (findings .exit))) ⌝ }
+{
+    let rows = kinds::table();
+    let mut chains = Chains::empty();
+    let none = Tally::start();
+    let mut w = Walk {
+        at: start,
+        index: first,
+        tally: none,
+        rejects: false,
+    };
+    loop {
+        let at = w.at;
+        let k = kinds::hint(file[at], file[at + 1], file[at + 2]);
+        let row = kinds::confirmed_row(rows[k], &file[at..]);
+        if row.place != DETAIL {
+            let links = links_of(chains);
+            return Details {
+                walk: w,
+                links: links,
+                place: row.place,
+            };
+        }
+        let end = at + row.size();
+        let record = &file[at..end];
+        let y = w.tally;
+        if row.sort == PUBLISHER {
+            let p = Publisher::read(record);
+            let known = p.is_known(chains);
+            let s = p.judged(record, row, y, known, societies, slots);
+            chains = p.joined_to(chains);
+            w = on(w, row, s, verdicts, findings);
+        } else {
+            let s = steps::other(record, row, y);
+            w = on(w, row, s, verdicts, findings);
+        }
+    }
+}
+
+// Findings 11 to 14.
+fn links_of(chains: Chains) -> Links
+    ensures { λ l. ⌜ ((ds : List Bytes) → Tallied chains ds → Linked l ds) ⌝ }
+{
+    Links {
+        many: chains.many,
+        shareless: chains.shareless(),
+        joined: chains.joined,
+        behind: chains.behind,
+    }
+}
