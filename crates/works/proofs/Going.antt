@@ -59,13 +59,57 @@ pub record Going (f s : Bytes) (start first : ℕ) (v₀ g₀ : Bytes) (c : Chai
 abbrev pub Inv : (f s : Bytes) (start first : ℕ) (v₀ g₀ : Bytes) (c : Chains) (w : Walk) (v g : Bytes) → Type 0
 Inv f s start first v₀ g₀ c w v g = (ds : List Bytes) × Going f s start first v₀ g₀ c w v g ds
 
-module _ (f s : Bytes) (start first : ℕ) (v₀ g₀ : Bytes) (c : Chains) (w : Walk) (v g : Bytes) (inv : Inv f s start first v₀ g₀ c w v g) where
+-- all that a turn of the loop begins with
+pub record Turn : Type 0 where
+  pub file : Bytes
+  pub societies : Bytes
+  pub start : ℕ
+  pub first : ℕ
+  pub verdicts₀ : Bytes
+  pub findings₀ : Bytes
+  pub chains : Chains
+  pub walk : Walk
+  pub verdicts : Bytes
+  pub findings : Bytes
+  pub inv : Inv file societies start first verdicts₀ findings₀ chains walk verdicts findings
+
+module _ (turn : Turn) where
+  abbrev f : Bytes
+  f = turn .file
+
+  abbrev s : Bytes
+  s = turn .societies
+
+  abbrev start : ℕ
+  start = turn .start
+
+  abbrev first : ℕ
+  first = turn .first
+
+  abbrev v₀ : Bytes
+  v₀ = turn .verdicts₀
+
+  abbrev g₀ : Bytes
+  g₀ = turn .findings₀
+
+  abbrev c : Chains
+  c = turn .chains
+
+  abbrev w : Walk
+  w = turn .walk
+
+  abbrev v : Bytes
+  v = turn .verdicts
+
+  abbrev g : Bytes
+  g = turn .findings
+
   pub ds : List Bytes
-  ds = inv .0
+  ds = turn .inv .0
 
   going : Going f s start first v₀ g₀ c w v g ds
   unfolding ds
-  going = inv .1
+  going = turn .inv .1
 
   pub r : Bytes
   r = firstOf (restAt f (w .at))
