@@ -4,7 +4,7 @@ use native.Mathlib.Omega.{arith}
 use mathlib.Core.Path.{_≡_, refl, sym, ap, _∙_}
 use mathlib.Core.Bool.{true}
 use mathlib.Core.List.{List, [], _∷_, _++_, map, append-assoc, append-nil}
-use lib.ListN.{length, take, drop, drop-of-length-le, length-append, length-drop, take-append-drop}
+use lib.ListN.{length, take, drop, drop-of-length-le, length-append, take-append-drop}
 use lib.Seq.{take-all, length-take-le, take-append-le, drop-append-le, take-at}
 use borrow.Rule.Slice.PartMut.{putMid, same-len-mid, mid-len, post-is, drop-put}
 use Rattle.format.specs.Bytes.{Bytes, unlines, put}

@@ -2,14 +2,14 @@
 use Prim.Native.Nat.{ℕ, suc, _+_, _*_, _-_, _^_, _≤_, _<_}
 use native.Mathlib.Omega.{arith}
 use mathlib.Core.Path.{_≡_, refl, sym, ap, _∙_, subst}
-use mathlib.Core.Bool.{Bool, true, false, cond}
+use mathlib.Core.Bool.{true, false}
 use mathlib.Core.List.{List, [], _∷_, _++_, append-assoc, append-nil}
 use lib.ListN.{length, take, drop}
 use Rattle.format.specs.Bytes.{Bytes, All}
-use Rattle.format.specs.Table.{Class, head, detail}
+use Rattle.format.specs.Table.{head, detail}
 use Rattle.format.specs.Cwr22.{cwr22}
 use Rattle.format.specs.Checks.{is, cls, code, classAt, check7}
-use Rattle.format.specs.Structure.{mostBytes, mostRecords, firstOf}
+use Rattle.format.specs.Structure.{mostRecords, firstOf}
 use Rattle.format.specs.Tree.{span, after, isDetail}
 use Rattle.format.proofs.Logic.{is-T}
 use Rattle.format.proofs.Tests.{by-cases}
@@ -24,9 +24,8 @@ use Rattle.structure.specs.Cursor.{Here, First}
 use Rattle.structure.proofs.Cursor.{first as record-here, three-left}
 use Rattle.chains.specs.declared.Chains.{Chains}
 use Rattle.chains.specs.Tallies.{Tallied, Small, Whole}
-use Rattle.chains.proofs.Laws.{small, whole-of, no-publisher}
+use Rattle.chains.proofs.Laws.{small, whole-of}
 use Rattle.totals.specs.Sums.{Below}
-use Rattle.edits.specs.Before.{lastSequence}
 use Rattle.edits.proofs.Before.{last-most}
 use Rattle.tally.specs.Known.{Known}
 use Rattle.tally.proofs.Laws.{below-limits}
@@ -37,13 +36,8 @@ use Rattle.tally.specs.declared.Tally.{Tally}
 use Rattle.buffers.proofs.Splice.{splice-nil}
 use Rattle.buffers.proofs.Entries.{kept-v, kept-f}
 use Rattle.works.specs.declared.Walk.{Walk}
-use Rattle.works.specs.declared.Details.{Details}
-use Rattle.works.specs.Walk.{restAt, Room, Gone, Done}
+use Rattle.works.specs.Walk.{restAt, tailOf, Room, Gone, Done}
 use Rattle.works.proofs.Laws.{detail-here}
-
-abbrev tailOf : List Bytes → List Bytes
-tailOf [] = []
-tailOf (r ∷ rs) = rs
 
 -- behind a header something stands
 some-record : (rs : List Bytes) → AlongFrom (check7 cwr22) head rs → rs ≡ firstOf rs ∷ tailOf rs

@@ -1,18 +1,17 @@
 -- One detail more. Assumes nothing.
-use Prim.Native.Nat.{ℕ, suc, _+_, _*_, _≤_, _<_}
+use Prim.Native.Nat.{ℕ, suc, _+_, _≤_}
 use native.Mathlib.Omega.{arith}
 use mathlib.Core.Path.{_≡_, refl, sym, ap, _∙_, subst}
-use mathlib.Core.Bool.{Bool, true, false, not, cond, _&&_, _||_, or-assoc, or-false}
+use mathlib.Core.Bool.{Bool, true, false, not, cond, _||_, or-assoc, or-false}
 use mathlib.Core.List.{List, [], _∷_, _++_, map, append-assoc, append-nil, map-append}
 use lib.Dec.{eqb, leb, leb·zero}
 use lib.ListN.{length, length-append, take, drop}
 use borrow.Author.Tests.{leb-true}
-use Rattle.format.specs.Bytes.{Bytes, All, every}
-use Rattle.format.specs.Table.{Class, hdr, grh, head, detail, grt, trl, unknown, Row as FormatRow, row, rowOf, noType, classOf, lenOf}
+use Rattle.format.specs.Bytes.{Bytes, every}
+use Rattle.format.specs.Table.{Class, head, detail, Row as FormatRow, row, classOf, lenOf}
 use Rattle.format.specs.Cwr22.{rows22, cwr22}
 use Rattle.format.specs.Checks.{is, cls, check7}
 use Rattle.format.proofs.Logic.{All-append}
-use Rattle.format.proofs.Tests.{by-cases}
 use Rattle.format.proofs.Passes.{AlongFrom}
 use Rattle.rules.specs.Tables.{Tables}
 use Rattle.rules.specs.Findings.{ownFindings, larger, worstFrom, worst}
@@ -32,7 +31,7 @@ use Rattle.heads.proofs.Laws.{later-rejects}
 use Rattle.buffers.specs.Written.{Written}
 use Rattle.buffers.proofs.Entries.{kept-v, kept-f, then}
 use Rattle.works.specs.declared.Walk.{Walk}
-use Rattle.works.specs.Walk.{Room, Gone}
+use Rattle.works.specs.Walk.{Gone}
 
 -- ---- sets of details
 
@@ -43,7 +42,7 @@ module _ (t : Tables) where
       ap (λ l. ownFindings t b d ∷ l)
       (details-last (b ++ d ∷ []) ds r ∙ ap (λ l. detailsFrom t (b ++ d ∷ []) ds ++ ownFindings t l r ∷ []) (append-assoc b (d ∷ []) ds))
 
-  length-details : (b ds : List Bytes) → length (detailsFrom t b ds) ≡ length ds
+  pub length-details : (b ds : List Bytes) → length (detailsFrom t b ds) ≡ length ds
   length-details b [] = refl
   length-details b (d ∷ ds) = ap suc (length-details (b ++ d ∷ []) ds)
 

@@ -1,9 +1,10 @@
 -- A walk over the details of a transaction: what it has done, and what is left.
 use mathlib.Core.Path.{_≡_}
-use mathlib.Core.List.{List, [], map}
-use Prim.Native.Nat.{ℕ, _+_, _*_, _≤_}
+use mathlib.Core.List.{List, [], _∷_, map}
+use Prim.Native.Nat.{ℕ, suc, _+_, _*_, _≤_}
 use lib.ListN.{length, drop}
 use Rattle.format.specs.Bytes.{Bytes, All}
+use Rattle.format.specs.Doc.{Transaction}
 use Rattle.format.specs.Table.{head}
 use Rattle.format.specs.Cwr22.{cwr22}
 use Rattle.format.specs.Checks.{cls, classAt}
@@ -13,8 +14,8 @@ use Rattle.format.specs.Numbering.{recordsIn}
 use Rattle.format.specs.Tree.{span, after, isDetail}
 use Rattle.rules.specs.Tables.{Tables}
 use Rattle.rules.specs.Findings.{worst}
-use Rattle.rules.specs.Works.{detailsFrom}
-use Rattle.rules.specs.Verdicts.{anyOf, rejects}
+use Rattle.rules.specs.Works.{is0, detailsFrom, transactionFindings}
+use Rattle.rules.specs.Verdicts.{anyOf, rejects, transactionVerdicts}
 use Rattle.structure.specs.Cursor.{Here}
 use Rattle.chains.specs.Tallies.{Whole}
 use Rattle.tally.specs.Known.{Known}
@@ -22,6 +23,7 @@ use Rattle.heads.specs.Headed.{Linked}
 use Rattle.buffers.specs.Written.{Written}
 use Rattle.works.specs.declared.Walk.{Walk}
 use Rattle.works.specs.declared.Details.{Details}
+use Rattle.works.specs.declared.Passed.{Passed}
 
 -- the records of a file from a byte on
 abbrev pub restAt : Bytes → ℕ → List Bytes
@@ -49,3 +51,19 @@ pub record Done (t : Tables) (f : Bytes) (first : ℕ) (rs : List Bytes) (d : De
   pub gone : Gone t f first (span (isDetail cwr22) rs) (after (isDetail cwr22) rs) (d .walk) v₀ g₀ v g
   pub linked : Linked (d .links) (span (isDetail cwr22) rs)
   pub place : classAt (d .place) ≡ cls cwr22 (firstOf (after (isDetail cwr22) rs))
+
+abbrev pub tailOf : List Bytes → List Bytes
+tailOf [] = []
+tailOf (r ∷ rs) = rs
+
+-- the transaction that a header at the front of the records begins
+abbrev pub frontOf : List Bytes → Transaction
+frontOf rs = record { header = firstOf rs; details = span (isDetail cwr22) (tailOf rs) }
+
+-- that transaction is done, the header being that record of the file
+pub record Transacted (tables : Tables) (t : ℕ) (named f : Bytes) (i : ℕ) (rs : List Bytes) (p : Passed) (v₀ g₀ v g : Bytes) : Type 0 where
+  pub here : Here f (p .at) head (after (isDetail cwr22) (tailOf rs))
+  pub index : p .index ≡ i + suc (length (frontOf rs .details))
+  pub place : classAt (p .place) ≡ cls cwr22 (firstOf (after (isDetail cwr22) (tailOf rs)))
+  pub stray : p .stray ≡ is0 named (firstOf rs)
+  pub written : Written i (transactionVerdicts tables t named (frontOf rs)) (transactionFindings tables t named (frontOf rs)) v₀ g₀ v g

@@ -1,5 +1,6 @@
 // One transaction of a file that is right by 3 to 10: its details are judged and counted one by one, then its header is judged by what
 // was counted. Each record's set and verdict is written as it comes.
+use buffers::raise;
 use buffers::settle;
 use chains::Chains;
 use edits::TR;
@@ -11,21 +12,23 @@ use steps::Publisher;
 use steps::Step;
 use tally::Tally;
 ghost use mathlib.Core.Path.{_≡_};
+ghost use mathlib.Core.Bool.{cond};
 ghost use mathlib.Core.List.{List, [], _∷_, _++_};
 ghost use Prim.Native.Nat.{ℕ, _+_, _*_, _<_, _≤_};
 ghost use lib.ListN.{length};
 ghost use Rattle.format.specs.Bytes.{Bytes};
-ghost use Rattle.format.specs.Table.{head, detail};
+ghost use Rattle.format.specs.Table.{Class, head, detail};
 ghost use Rattle.format.specs.Cwr22.{cwr22};
 ghost use Rattle.format.specs.Checks.{cls};
-ghost use Rattle.format.specs.Structure.{mostBytes};
+ghost use Rattle.format.specs.Structure.{mostBytes, firstOf};
 ghost use Rattle.rules.specs.Tables.{Tables};
+ghost use Rattle.rules.specs.Values.{largestTolerance};
 ghost use Rattle.lookup.specs.Index.{Indexed};
 ghost use Rattle.chains.specs.Tallies.{Tallied};
 ghost use Rattle.heads.specs.Headed.{Linked};
 ghost use Rattle.structure.specs.Cursor.{Here, First};
 ghost use Rattle.steps.specs.Stepped.{Stepped};
-ghost use Rattle.works.specs.Walk.{restAt, Room, Gone, Done};
+ghost use Rattle.works.specs.Walk.{restAt, Room, Gone, Done, Transacted};
 
 // Where the walk over a transaction's details stands: at a byte of the file, before a record of that number; what is known of the details
 // so far, and whether one of them has a finding that rejects the transaction.
@@ -120,5 +123,76 @@ fn links_of(chains: Chains) -> Links
         shareless: chains.shareless(),
         joined: chains.joined,
         behind: chains.behind,
+    }
+}
+
+// Behind a transaction: where the next record begins, its number and its place; whether the header has finding 0.
+pub struct Passed {
+    pub at: usize,
+    pub index: usize,
+    pub place: u8,
+    pub stray: bool,
+}
+
+// How long a header is.
+const HEADER: usize = 260;
+
+fn least_verdict(rejects: bool) -> u8
+    ensures { λ r. ⌜ r ≡ cond rejects 3 0 ⌝ }
+{
+    if rejects { TR } else { 0 }
+}
+
+// One transaction, whose header stands here and is that record of the file, in a group whose GRH names that type.
+pub fn judge_transaction(
+    file: &[u8],
+    at: usize,
+    index: usize,
+    named: &[u8],
+    t: u64,
+    languages: &[u8],
+    language_slots: &[u16],
+    societies: &[u8],
+    society_slots: &[u16],
+    categories: &[u8],
+    category_slots: &[u16],
+    verdicts: &mut [u8],
+    findings: &mut [u8],
+) -> Passed
+    requires { ⌜ (length (now file) ≤ mostBytes) × ((c : Class) × Here (now file) at c (restAt (now file) at)) × (cls cwr22 (firstOf (restAt (now file) at)) ≡ head) × Room index (length (restAt (now file) at)) (length (now verdicts)) (length (now findings)) ⌝ }
+    requires { ⌜ (t ≤ largestTolerance) × Indexed 2 (now languages) (now «language_slots») × Indexed 3 (now societies) (now «society_slots») × Indexed 3 (now categories) (now «category_slots») ⌝ }
+    ensures { λ p. ⌜ Transacted (record { languages = now (languages .entry); societies = now (societies .entry); categories = now (categories .entry) }) t (now (named .entry)) (now (file .entry)) index (restAt (now (file .entry)) at) p (now (verdicts .entry)) (now (findings .entry)) (now (verdicts .exit)) (now (findings .exit)) ⌝ }
+{
+    let end = at + HEADER;
+    let header = &file[at..end];
+    let own = edits::header::judge(
+        header,
+        languages,
+        language_slots,
+        categories,
+        category_slots,
+    );
+    let d = judge_details(
+        file,
+        end + 2,
+        index + 1,
+        societies,
+        society_slots,
+        verdicts,
+        findings,
+    );
+    let w = d.walk;
+    let links = d.links;
+    let y = w.tally;
+    let h = heads::judge(header, named, own, y, links, t);
+    settle(index, h.set, h.level, verdicts, findings);
+    let e = w.index;
+    let least = least_verdict(h.rejects | w.rejects);
+    raise(&mut verdicts[index..e], least);
+    Passed {
+        at: w.at,
+        index: e,
+        place: d.place,
+        stray: h.stray,
     }
 }
