@@ -12,3 +12,6 @@ pub mod Order
 pub mod Chains
 pub mod Works
 pub mod Verdicts
+pub mod Outcome
+pub mod Listing
+pub mod Claims

@@ -1,0 +1,47 @@
+-- What a check answers, and what it leaves in the two buffers that it was lent: for every file, tables, tolerance and buffers.
+use Prim.Native.Nat.{ℕ, _*_}
+use mathlib.Core.Bool.{_&&_}
+use lib.Dec.{leb}
+use lib.ListN.{length}
+use Rattle.format.specs.Bytes.{Bytes}
+use Rattle.format.specs.Doc.{Doc}
+use Rattle.format.specs.Cwr22.{cwr22}
+use Rattle.format.specs.Lines.{lines}
+use Rattle.format.specs.Structure.{Answer, refusal, unless, structure}
+use Rattle.format.specs.Numbering.{recordsIn}
+use Rattle.format.specs.Tree.{tree}
+use Rattle.format.specs.Room.{inRoom, leftIn}
+use Rattle.rules.specs.Tables.{Tables, languageSize, societySize, categorySize, rightTable}
+use Rattle.rules.specs.Values.{largestTolerance}
+use Rattle.rules.specs.Verdicts.{findingBytes, fileFindings, fileVerdicts}
+
+-- 1 to 11 in their order, for buffers of v and g bytes: one verdict byte a record, and eight of findings
+unfoldable pub answer : Tables → ℕ → Bytes → ℕ → ℕ → Answer
+answer tables t f v g =
+    refusal 1 (unless (leb t largestTolerance) 0)
+    (refusal 2 (unless (rightTable languageSize (tables .languages)) 0)
+    (refusal 2 (unless (rightTable societySize (tables .societies)) 1)
+    (refusal 2 (unless (rightTable categorySize (tables .categories)) 2)
+    (inRoom (λ r. leb r v && leb (8 * r) g) (structure cwr22 f)))))
+
+-- the groups and transactions of a file, each record whole
+abbrev pub content : Bytes → Doc
+content f = tree cwr22 (recordsIn (lines f))
+
+-- the answer, and the two buffers behind the call
+pub record Outcome : Type 0 where
+  pub answer : Answer
+  pub verdicts : Bytes
+  pub findings : Bytes
+
+-- the entire outcome of a check of file f with tables and tolerance t, the buffers being v and g before it
+unfoldable pub check : Tables → ℕ → Bytes → Bytes → Bytes → Outcome
+check tables t f v g = record {
+  answer = answer tables t f (length v) (length g);
+  verdicts = leftIn (answer tables t f (length v) (length g)) (fileVerdicts tables t (content f)) v;
+  findings = leftIn (answer tables t f (length v) (length g)) (findingBytes (fileFindings tables t (content f))) g;
+}
+
+-- the tolerance of the short form
+abbrev pub shortTolerance : ℕ
+shortTolerance = largestTolerance
