@@ -1,0 +1,121 @@
+-- One group, and the loop over the groups of a file. Assumes nothing.
+use Prim.Native.Nat.{ℕ, suc, _+_, _*_, _-_, _≤_, _<_}
+use native.Mathlib.Omega.{arith}
+use mathlib.Core.Path.{_≡_, refl, sym, ap, _∙_, subst}
+use mathlib.Core.Bool.{Bool, true, false, cond, false≢true}
+use mathlib.Core.List.{List, [], _∷_, _++_}
+use lib.Dec.{eqb}
+use lib.ListN.{length, take, drop, getD, length-append}
+use borrow.Rule.Slice.PartMut.{putMid}
+use Rattle.format.specs.Bytes.{Bytes}
+use Rattle.format.specs.Doc.{Group, Transaction}
+use Rattle.format.specs.Table.{Class, hdr, grh, head, grt, trl}
+use Rattle.format.specs.Cwr22.{cwr22}
+use Rattle.format.specs.Checks.{is, cls}
+use Rattle.format.specs.Structure.{firstOf}
+use Rattle.format.specs.Tree.{span, after, isGRH, isInside, groupsIn}
+use Rattle.format.proofs.Logic.{is-T}
+use Rattle.format.proofs.Tests.{by-cases}
+use Rattle.format.proofs.Tree.{is→eq}
+use Rattle.format.proofs.Walks.{group-first, groups-skip}
+use Rattle.rules.specs.Tables.{Tables}
+use Rattle.rules.specs.Works.{namedType, transactionFindings}
+use Rattle.rules.specs.Verdicts.{joined, raised, isStray, groupFindings, transactionVerdicts, groupVerdicts}
+use Rattle.structure.specs.Cursor.{Here}
+use Rattle.buffers.specs.Written.{Written}
+use Rattle.buffers.proofs.Entries.{kept-v, kept-f, then}
+use Rattle.buffers.proofs.Raised.{raised-over}
+use Rattle.works.specs.Walk.{restAt, tailOf, Room}
+use Rattle.files.specs.declared.Next.{Next}
+use Rattle.files.specs.Levels.{transactionsOf, groupOf, behindGroup, isStrayAmong, Judged}
+use Rattle.files.proofs.Controls.{opening, closing, trailer, ends, lent, long, next, letter, some-record, follows, grh-behind, trl-behind, as-closed, last-record}
+use Rattle.files.proofs.Levels.{Going, room-left, going-none, going-room, going-on, going-end}
+
+-- ---- one group
+
+module _ (f : Bytes) (at : ℕ) (h : Here f at grt (restAt f at)) (is-grh : cls cwr22 (firstOf (restAt f at)) ≡ grh) where
+  left : restAt f at ≡ firstOf (restAt f at) ∷ tailOf (restAt f at)
+  left = some-record grt refl (restAt f at) (h .placed)
+
+  here : Here f at grt (firstOf (restAt f at) ∷ tailOf (restAt f at))
+  here = subst (Here f at grt) left h
+
+  pub opening-ends : at + 28 + 2 ≤ length f
+  opening-ends = ends opening here is-grh
+
+  pub opening-lent : (e : ℕ) → e ≡ at + 28 → take (e - at) (drop at f) ≡ firstOf (restAt f at)
+  opening-lent = lent opening here is-grh
+
+  pub behind-opening : (e : ℕ) → e ≡ at + 28 + 2 → restAt f e ≡ tailOf (restAt f at)
+  behind-opening e q = next opening here is-grh e q .left
+
+  pub inside-here : (e : ℕ) → e ≡ at + 28 + 2 → Here f e grh (restAt f e)
+  inside-here e q = rw (behind-opening e q) (next opening here is-grh e q)
+
+  pub opening-room : (n v g : ℕ) → Room n (length (restAt f at)) v g → (n < v) × (8 * (n + 1) ≤ g)
+  opening-room n v g m = (omega (arith, m .inV, ap length left), omega (arith, m .inF, ap length left))
+
+  pub inside-room : (n v g e : ℕ) → e ≡ at + 28 + 2 → Room n (length (restAt f at)) v g → Room (n + 1) (length (restAt f e)) v g
+  inside-room n v g e q m =
+      let l : length (restAt f at) ≡ suc (length (restAt f e)) = ap length left ∙ ap (λ k. suc (length k)) (sym (behind-opening e q)) in
+      record { few = omega (arith, m .few); inV = omega (arith, m .inV); inF = omega (arith, m .inF) }
+
+-- its GRT: where its transactions end
+module _ {f : Bytes} {m i : ℕ} {vs : List ℕ} {sets : List (List Bool)} {at n : ℕ} {rs : List Bytes} {v₀ g₀ v g : Bytes}
+    (judged : Judged f m i vs sets at n head rs v₀ g₀ v g) (is-grt : cls cwr22 (firstOf rs) ≡ grt) where
+  last : rs ≡ firstOf rs ∷ tailOf rs
+  last = some-record head refl rs (judged .here .placed)
+
+  there : Here f at head (firstOf rs ∷ tailOf rs)
+  there = subst (Here f at head) last (judged .here)
+
+  pub closing-ends : at + 37 + 2 ≤ length f
+  closing-ends = ends closing there is-grt
+
+  pub behind-closing : Here f (at + 37 + 2) grt (tailOf rs)
+  behind-closing = next closing there is-grt (at + 37 + 2) refl
+
+  pub closing-room : (k : ℕ) → m ≡ i + k → Room i k (length v₀) (length g₀) → (n < length v) × (8 * (n + 1) ≤ length g)
+  closing-room k e r =
+      let w = room-left k judged e r in
+      (omega (arith, w .inV, ap length last), omega (arith, w .inF, ap length last))
+
+  pub closing-left : n + 1 + length (tailOf rs) ≡ m
+  closing-left = omega (arith, judged .left, ap length last)
+
+-- all its records are written, and raised
+module _ (tables : Tables) (t : ℕ) (f named : Bytes) (at index inside : ℕ) (h : Here f at grt (restAt f at)) (is-grh : cls cwr22 (firstOf (restAt f at)) ≡ grh) where
+  abbrev g : Group
+  g = groupOf (restAt f at)
+
+  abbrev xs : List Transaction
+  xs = transactionsOf (tailOf (restAt f at))
+
+  pub group-done : (p-at p-index least : ℕ) (stray : Bool) (v₀ g₀ v₁ g₁ v₂ g₂ v₃ g₃ ys : Bytes) → inside ≡ at + 28 + 2
+      → named ≡ namedType (firstOf (restAt f at))
+      → Written index (0 ∷ []) ([] ∷ []) v₀ g₀ v₁ g₁
+      → Judged f (index + 1 + length (restAt f inside)) (index + 1) (joined (transactionVerdicts tables t named) (transactionsOf (restAt f inside)))
+        (joined (transactionFindings tables t named) (transactionsOf (restAt f inside))) p-at p-index head (after (isInside cwr22) (restAt f inside)) v₁ g₁ v₂ g₂
+      → stray ≡ isStrayAmong named (transactionsOf (restAt f inside)) → cls cwr22 (firstOf (after (isInside cwr22) (restAt f inside))) ≡ grt
+      → Written p-index (0 ∷ []) ([] ∷ []) v₂ g₂ v₃ g₃
+      → least ≡ cond stray 4 0 → ys ≡ raised least (take (p-index + 1 - index) (drop index v₃))
+      → Judged f (index + length (restAt f at)) index (groupVerdicts tables t g) (groupFindings tables t g) (p-at + 37 + 2) (p-index + 1) grt (behindGroup (restAt f at)) v₀ g₀ (putMid index (p-index + 1 - index) v₃ ys) g₃
+  unfolding groupVerdicts groupFindings isStray
+  group-done p-at p-index least stray v₀ g₀ v₁ g₁ v₂ g₂ v₃ g₃ ys q nm w₁ j st cl w₃ ls y =
+      let b = behind-opening f at h is-grh inside q in
+      let ss : List (List Bool) = joined (transactionFindings tables t named) xs in
+      let vs : List ℕ = joined (transactionVerdicts tables t named) xs in
+      let j' : Judged f (index + 1 + length (tailOf (restAt f at))) (index + 1) vs ss p-at p-index head (after (isInside cwr22) (tailOf (restAt f at))) v₁ g₁ v₂ g₂ = rw b at j in
+      let cl' : cls cwr22 (firstOf (after (isInside cwr22) (tailOf (restAt f at)))) ≡ grt = rw b at cl in
+      let st' : stray ≡ isStrayAmong named xs = rw b at st in
+      let n : p-index ≡ index + length ([] ∷ ss) = omega (arith, j' .index) in
+      let w₂ : Written index (0 ∷ vs) ([] ∷ ss) v₀ g₀ v₂ g₂ = then w₁ (j' .written) in
+      let w₄ : Written index ((0 ∷ vs) ++ 0 ∷ []) (([] ∷ ss) ++ [] ∷ []) v₀ g₀ v₃ g₃ = then w₂ (rw n at w₃) in
+      let l : p-index + 1 ≡ index + length (([] ∷ ss) ++ [] ∷ []) = rw (length-append ([] ∷ ss) ([] ∷ [])) (omega (arith, n)) in
+      let w₅ = raised-over least (p-index + 1) ys w₄ l y in
+      record {
+        here = behind-closing j' cl';
+        left = closing-left j' cl' ∙ omega (arith, ap length (left f at h is-grh));
+        index = rw nm at l;
+        written = rw (ls, st', nm) at w₅;
+      }

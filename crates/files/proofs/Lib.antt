@@ -1,0 +1,4 @@
+pub mod Controls
+pub mod Levels
+pub mod Transactions
+pub mod Groups
