@@ -11,7 +11,7 @@ use Rattle.format.specs.Bytes.{Bytes}
 use Rattle.format.specs.Doc.{Group, Transaction}
 use Rattle.format.specs.Table.{Class, hdr, grh, head, grt, trl}
 use Rattle.format.specs.Cwr22.{cwr22}
-use Rattle.format.specs.Checks.{is, cls}
+use Rattle.format.specs.Checks.{is, cls, mayFollow}
 use Rattle.format.specs.Structure.{firstOf}
 use Rattle.format.specs.Tree.{span, after, isGRH, isInside, groupsIn}
 use Rattle.format.proofs.Logic.{is-T}
@@ -22,6 +22,7 @@ use Rattle.rules.specs.Tables.{Tables}
 use Rattle.rules.specs.Works.{namedType, transactionFindings}
 use Rattle.rules.specs.Verdicts.{joined, raised, isStray, groupFindings, transactionVerdicts, groupVerdicts}
 use Rattle.structure.specs.Cursor.{Here}
+use Rattle.structure.proofs.Cursor.{three-left}
 use Rattle.buffers.specs.Written.{Written}
 use Rattle.buffers.proofs.Entries.{kept-v, kept-f, then}
 use Rattle.buffers.proofs.Raised.{raised-over}
@@ -32,6 +33,11 @@ use Rattle.files.proofs.Controls.{opening, closing, trailer, ends, lent
 use Rattle.files.proofs.Levels.{Going, room-left, going-none, going-room, going-on, going-end}
 
 -- ---- one group
+
+-- no group begins with GRT
+closing-skipped : (rs : List Bytes) → cls cwr22 (firstOf rs) ≡ grt → groupsIn cwr22 rs ≡ groupsIn cwr22 (tailOf rs)
+closing-skipped [] e = refl
+closing-skipped (r ∷ rs) e = groups-skip cwr22 r rs (rw e refl)
 
 module _ (f : Bytes) (at : ℕ) (h : Here f at grt (restAt f at)) (is-grh : cls cwr22 (firstOf (restAt f at)) ≡ grh) where
   left : restAt f at ≡ firstOf (restAt f at) ∷ tailOf (restAt f at)
@@ -59,6 +65,14 @@ module _ (f : Bytes) (at : ℕ) (h : Here f at grt (restAt f at)) (is-grh : cls 
   inside-room n v g e q m =
       let l : length (restAt f at) ≡ suc (length (restAt f e)) = ap length left ∙ ap (λ k. suc (length k)) (sym (behind-opening e q)) in
       record { few = omega (arith, m .few); inV = omega (arith, m .inV); inF = omega (arith, m .inF) }
+
+  -- it is the first of the groups that stand here
+  pub first-group : (e : ℕ) → e ≡ at + 28 + 2 → cls cwr22 (firstOf (after (isInside cwr22) (restAt f e))) ≡ grt
+      → groupsIn cwr22 (restAt f at) ≡ groupOf (restAt f at) ∷ groupsIn cwr22 (behindGroup (restAt f at))
+  first-group e q cl =
+      ap (groupsIn cwr22) left
+      ∙ group-first cwr22 (firstOf (restAt f at)) (tailOf (restAt f at)) (rw is-grh refl)
+      ∙ ap (λ l. groupOf (restAt f at) ∷ l) (closing-skipped (after (isInside cwr22) (tailOf (restAt f at))) (rw (behind-opening e q) at cl))
 
 -- its GRT: where its transactions end
 module _ {f : Bytes} {m i : ℕ} {vs : List ℕ} {sets : List (List Bool)} {at n : ℕ} {rs : List Bytes} {v₀ g₀ v g : Bytes}
@@ -119,3 +133,82 @@ module _ (tables : Tables) (t : ℕ) (f named : Bytes) (at index inside : ℕ) (
         index = rw nm at l;
         written = rw (ls, st', nm) at w₅;
       }
+
+-- ---- the loop
+
+module _ (tables : Tables) (t : ℕ) (f : Bytes) (start i : ℕ) (v₀ g₀ : Bytes) where
+  -- the groups gs are done
+  abbrev pub Inv : Next → Bytes → Bytes → Type 0
+  Inv n v g =
+      (gs : List Group) × Going (groupsIn cwr22) (groupVerdicts tables t) (groupFindings tables t) f start i v₀ g₀ (n .at) (n .index) grt v g gs
+
+  pub over-none : Here f start hdr (restAt f start) → Room i (length (restAt f start)) (length v₀) (length g₀)
+      → Inv (record { at = start; index = i }) v₀ g₀
+  over-none h m = ([], going-none (groupsIn cwr22) (groupVerdicts tables t) (groupFindings tables t) f start i v₀ g₀ (as-closed h) m)
+
+  module _ {n : Next} {v g : Bytes} (inv : Inv n v g) where
+    pub over-here : Here f (n .at) grt (restAt f (n .at))
+    over-here = inv .1 .judged .here
+
+    some-left : restAt f (n .at) ≡ firstOf (restAt f (n .at)) ∷ tailOf (restAt f (n .at))
+    some-left = some-record grt refl (restAt f (n .at)) (over-here .placed)
+
+    stands : Here f (n .at) grt (firstOf (restAt f (n .at)) ∷ tailOf (restAt f (n .at)))
+    stands = subst (Here f (n .at) grt) some-left over-here
+
+    pub in-file : n .at < length f
+    in-file = omega (arith, three-left stands)
+
+    pub over-room : Room i (length (restAt f start)) (length v₀) (length g₀) → Room (n .index) (length (restAt f (n .at))) (length v) (length g)
+    over-room m = going-room (groupsIn cwr22) (groupVerdicts tables t) (groupFindings tables t) f start i v₀ g₀ (inv .1) m
+
+    pub same-v : length v ≡ length v₀
+    same-v = kept-v (inv .1 .judged .written)
+
+    pub same-g : length g ≡ length g₀
+    same-g = kept-f (inv .1 .judged .written)
+
+    follower : mayFollow grt (cls cwr22 (firstOf (restAt f (n .at)))) ≡ true
+    follower = follows grt refl (restAt f (n .at)) (over-here .placed)
+
+    -- G is the first letter of GRH, and not of TRL
+    pub group-here : eqb (getD f (n .at) 0) 71 ≡ true → cls cwr22 (firstOf (restAt f (n .at))) ≡ grh
+    group-here e =
+        by-cases (isGRH cwr22 (firstOf (restAt f (n .at))))
+        (λ q. sym (is→eq grh _ (is-T (isGRH cwr22 (firstOf (restAt f (n .at)))) q)))
+        (λ q. absurd (false≢true (ap (λ b. eqb b 71) (sym (letter trailer stands (trl-behind _ follower q) (omega arith))) ∙ e)))
+
+    no-group : eqb (getD f (n .at) 0) 71 ≡ false → isGRH cwr22 (firstOf (restAt f (n .at))) ≡ false
+    no-group e =
+        by-cases (isGRH cwr22 (firstOf (restAt f (n .at))))
+        (λ q. absurd (false≢true (sym e ∙ ap (λ b. eqb b 71) (letter opening stands (sym (is→eq grh _ (is-T (isGRH cwr22 (firstOf (restAt f (n .at)))) q))) (omega arith)))))
+        (λ q. q)
+
+    -- one group more
+    module _ (o : Next) (v' g' : Bytes)
+        (done : Judged f (n .index + length (restAt f (n .at))) (n .index) (groupVerdicts tables t (groupOf (restAt f (n .at)))) (groupFindings tables t (groupOf (restAt f (n .at)))) (o .at) (o .index) grt (behindGroup (restAt f (n .at))) v g v' g') where
+      pub over-on : groupsIn cwr22 (restAt f (n .at)) ≡ groupOf (restAt f (n .at)) ∷ groupsIn cwr22 (behindGroup (restAt f (n .at))) → Inv o v' g'
+      over-on e = (
+        inv .0 ++ groupOf (restAt f (n .at)) ∷ [],
+        going-on (groupsIn cwr22) (groupVerdicts tables t) (groupFindings tables t) f start i v₀ g₀ (inv .1) (groupOf (restAt f (n .at))) e done,
+      )
+
+      pub fewer : length (restAt f (o .at)) < length (restAt f (n .at))
+      unfolding groupFindings
+      fewer = omega (arith, done .left, done .index, ap length (done .here .left))
+
+    -- none is left
+    module _ (e : eqb (getD f (n .at) 0) 71 ≡ false) where
+      is-trl : cls cwr22 (firstOf (restAt f (n .at))) ≡ trl
+      is-trl = trl-behind _ follower (no-group e)
+
+      alone : tailOf (restAt f (n .at)) ≡ []
+      alone = last-record (tailOf (restAt f (n .at))) (next trailer stands is-trl (n .at + 24 + 2) refl .placed)
+
+      pub over-end : Judged f (i + length (restAt f start)) i (joined (groupVerdicts tables t) (groupsIn cwr22 (restAt f start))) (joined (groupFindings tables t) (groupsIn cwr22 (restAt f start))) (n .at) (n .index) grt (restAt f (n .at)) v₀ g₀ v g
+      over-end =
+          going-end (groupsIn cwr22) (groupVerdicts tables t) (groupFindings tables t) f start i v₀ g₀ (inv .1)
+          (ap (groupsIn cwr22) some-left ∙ groups-skip cwr22 (firstOf (restAt f (n .at))) (tailOf (restAt f (n .at))) (no-group e) ∙ ap (groupsIn cwr22) alone)
+
+      pub one-left : length (restAt f (n .at)) ≡ 1
+      one-left = ap length some-left ∙ ap (λ l. suc (length l)) alone

@@ -8,6 +8,7 @@ use mathlib.Core.List.{List, [], _∷_, _++_, append-assoc, append-nil}
 use lib.ListN.{length, length-append}
 use Rattle.format.specs.Bytes.{Bytes}
 use Rattle.format.specs.Table.{Class}
+use Rattle.rules.specs.Findings.{setOf}
 use Rattle.rules.specs.Verdicts.{joined, findingBytes}
 use Rattle.rules.proofs.Joined.{joined-one, joined-append}
 use Rattle.structure.specs.Cursor.{Here}
@@ -26,6 +27,20 @@ written-none i v g a b = record {
   even = refl;
   inV = omega arith;
   inF = omega arith;
+}
+
+-- the set of a record that has no finding
+pub nothing : 0 ≡ setOf []
+unfolding setOf
+nothing = refl
+
+-- no buffer grows or shrinks
+pub room-kept : {i n k : ℕ} {vs : List ℕ} {sets : List (List Bool)} {v₀ g₀ v g : Bytes} → Written i vs sets v₀ g₀ v g
+    → Room n k (length v₀) (length g₀) → Room n k (length v) (length g)
+room-kept w m = record {
+  few = m .few;
+  inV = omega (arith, m .inV, kept-v w);
+  inF = omega (arith, m .inF, kept-f w);
 }
 
 -- room for what is left

@@ -6,6 +6,7 @@ use kinds::HEAD;
 use works::Passed;
 ghost use mathlib.Core.Path.{_≡_};
 ghost use mathlib.Core.Bool.{cond};
+ghost use mathlib.Core.List.{_∷_};
 ghost use Prim.Native.Nat.{_+_, _≤_, _<_};
 ghost use lib.Dec.{eqb};
 ghost use lib.ListN.{length, getD};
@@ -117,6 +118,7 @@ fn judge_group(
     requires { ⌜ (length (now file) ≤ mostBytes) × Here (now file) at grt (restAt (now file) at) × (cls cwr22 (firstOf (restAt (now file) at)) ≡ grh) × Room index (length (restAt (now file) at)) (length (now verdicts)) (length (now findings)) ⌝ }
     requires { ⌜ (t ≤ largestTolerance) × Indexed 2 (now languages) (now «language_slots») × Indexed 3 (now societies) (now «society_slots») × Indexed 3 (now categories) (now «category_slots») ⌝ }
     ensures { λ n. ⌜ Judged (now (file .entry)) (index + length (restAt (now (file .entry)) at)) index (groupVerdicts (tablesOf (now (languages .entry)) (now (societies .entry)) (now (categories .entry))) t (groupOf (restAt (now (file .entry)) at))) (groupFindings (tablesOf (now (languages .entry)) (now (societies .entry)) (now (categories .entry))) t (groupOf (restAt (now (file .entry)) at))) (n .at) (n .index) grt (behindGroup (restAt (now (file .entry)) at)) (now (verdicts .entry)) (now (findings .entry)) (now (verdicts .exit)) (now (findings .exit)) ⌝ }
+    ensures { λ _. ⌜ groupsIn cwr22 (restAt (now (file .entry)) at) ≡ groupOf (restAt (now (file .entry)) at) ∷ groupsIn cwr22 (behindGroup (restAt (now (file .entry)) at)) ⌝ }
 {
     let end = at + GRH_LENGTH;
     let opening = &file[at..end];
