@@ -65,9 +65,9 @@ module _ {k : Class} {n b : ℕ} (kind : Control k n b) where
   is-alike r h =
       row-cases (λ (f : FormatRow). classOf f ≡ k → (lenOf f ≡ n) × (getD (take 3 r) 0 0 ≡ b)) (alike k n b) (take 3 r)
       (λ m c e q.
-        let t = both (eqb m n) (eqb (getD (take 3 r) 0 0) b)
-              (rw (is-self k) at (subst (λ (d : Class). (not (is k d) || (eqb m n && eqb (getD (take 3 r) 0 0) b)) ≡ true) q e)) in
-        (eqb-true m n (t .0), eqb-true (getD (take 3 r) 0 0) b (t .1)))
+      let t = both (eqb m n) (eqb (getD (take 3 r) 0 0) b)
+      (rw (is-self k) at (subst (λ (d : Class). (not (is k d) || (eqb m n && eqb (getD (take 3 r) 0 0) b)) ≡ true) q e)) in
+      (eqb-true m n (t .0), eqb-true (getD (take 3 r) 0 0) b (t .1)))
       rows22 (kind .all)
       (λ none q. absurd (false≢true (sym (kind .known) ∙ ap (is k) q ∙ is-self k)))
       h

@@ -71,16 +71,16 @@ module _ (f : Bytes) (h : Here f 0 unknown (restAt f 0)) where
     unfolding fileFindings tree
     file-findings = ap (λ gs. [] ∷ joined (groupFindings tables t) gs ++ [] ∷ []) same-groups
 
-    module _ {v₀ g₀ v₁ g₁ v₂ g₂ : Bytes} {at n : ℕ}
+    module _ {v₁ g₁ v₂ g₂ : Bytes} {at n : ℕ}
         (judged : Judged f (1 + length (restAt f 169)) 1 vs sets at n grt (restAt f at) v₁ g₁ v₂ g₂) (one : length (restAt f at) ≡ 1) where
       pub trailer-room : Room 1 (length (restAt f 169)) (length v₁) (length g₁) → (n < length v₂) × (8 * (n + 1) ≤ length g₂)
       trailer-room m =
           let w = room-left (length (restAt f 169)) judged refl m in
           (omega (arith, w .inV, one), omega (arith, w .inF, one))
 
-      pub file-done : {v₃ g₃ : Bytes} → Written 0 (0 ∷ []) ([] ∷ []) v₀ g₀ v₁ g₁ → Written n (0 ∷ []) ([] ∷ []) v₂ g₂ v₃ g₃
+      pub file-done : {v₀ g₀ v₃ g₃ : Bytes} → Written 0 (0 ∷ []) ([] ∷ []) v₀ g₀ v₁ g₁ → Written n (0 ∷ []) ([] ∷ []) v₂ g₂ v₃ g₃
           → Written 0 (fileVerdicts tables t (content f)) (fileFindings tables t (content f)) v₀ g₀ v₃ g₃
-      file-done {v₃} {g₃} w₁ w₃ =
+      file-done {v₀} {g₀} {v₃} {g₃} w₁ w₃ =
           let i : n ≡ 0 + length ([] ∷ sets) = omega (arith, judged .index) in
           let w₂ : Written 0 (0 ∷ vs) ([] ∷ sets) v₀ g₀ v₂ g₂ = then w₁ (judged .written) in
           let w₄ : Written 0 ((0 ∷ vs) ++ 0 ∷ []) (([] ∷ sets) ++ [] ∷ []) v₀ g₀ v₃ g₃ = then w₂ (rw i at w₃) in

@@ -109,7 +109,7 @@ module _ (tables : Tables) (t : ℕ) (f named : Bytes) (at index inside : ℕ) (
       → named ≡ namedType (firstOf (restAt f at))
       → Written index (0 ∷ []) ([] ∷ []) v₀ g₀ v₁ g₁
       → Judged f (index + 1 + length (restAt f inside)) (index + 1) (joined (transactionVerdicts tables t named) (transactionsOf (restAt f inside)))
-        (joined (transactionFindings tables t named) (transactionsOf (restAt f inside))) p-at p-index head (after (isInside cwr22) (restAt f inside)) v₁ g₁ v₂ g₂
+      (joined (transactionFindings tables t named) (transactionsOf (restAt f inside))) p-at p-index head (after (isInside cwr22) (restAt f inside)) v₁ g₁ v₂ g₂
       → stray ≡ isStrayAmong named (transactionsOf (restAt f inside)) → cls cwr22 (firstOf (after (isInside cwr22) (restAt f inside))) ≡ grt
       → Written p-index (0 ∷ []) ([] ∷ []) v₂ g₂ v₃ g₃
       → least ≡ cond stray 4 0 → ys ≡ raised least (take (p-index + 1 - index) (drop index v₃))
