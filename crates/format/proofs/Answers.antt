@@ -13,7 +13,7 @@ use Rattle.format.specs.Table.{Table}
 use Rattle.format.specs.Lines.{Lines, good, bad, lines}
 use Rattle.format.specs.Checks.{Check, faultOf, zeros, countFrom, check6, check7, check8, check9}
 use Rattle.format.specs.Structure.{Answer, refused, passed, refusal, unless, mostBytes, mostRecords, firstOf, countsOf, ofLines, ofFile, judged, structure}
-use Rattle.format.specs.Numbering.{placed, numbering}
+use Rattle.format.specs.Numbering.{placed}
 use Rattle.format.specs.Claims.{Limits}
 use Rattle.format.proofs.Logic.{is-true}
 use Rattle.format.proofs.Lines.{lines-pairs}
@@ -39,10 +39,10 @@ module _ (n : ℕ) (K : Check) (rs : List Bytes) (a : Answer) where
 
 -- a test that refuses by n at place i, and what follows it
 module _ (n i : ℕ) (b : Bool) (a : Answer) where
-  tested : (g t r : ℕ) → refusal n (unless b i) a ≡ passed g t r → T b × (a ≡ passed g t r)
+  pub tested : (g t r : ℕ) → refusal n (unless b i) a ≡ passed g t r → T b × (a ≡ passed g t r)
   tested g t r e = let p = refusal-passed n (unless b i) a g t r e in (unless-none b i (p .0), p .1)
 
-  untested : T b → refusal n (unless b i) a ≡ a
+  pub untested : T b → refusal n (unless b i) a ≡ a
   untested h = rw (is-true b h)
 
 -- ---- the records' part
@@ -122,25 +122,45 @@ module _ (judge : List Bytes → Answer) where
           let (few, e5) = tested 5 mostRecords (leb (length rs) mostRecords) (judge rs) g t n v in
           record { rs = rs; is-lines = q; limits = (s, rw (lines-pairs f rs q) (leb→le (length rs) mostRecords few)); is-judged = e5 }
 
--- ---- a refusal within the size limits is one on structure
+-- ---- by which numbers a file is refused
 
+-- P holds of the refusal's number, if it is a refusal
+abbrev pub By : (ℕ → Type 0) → Answer → Type 0
+By P (refused n i) = P n
+By P (passed g t n) = Unit {0}
+
+pub refusal-by : (P : ℕ → Type 0) (n : ℕ) (o : Option ℕ) (a : Answer) → P n → By P a → By P (refusal n o a)
+refusal-by P n none a p k = k
+refusal-by P n (some i) a p k = p
+
+module _ (𝕋 : Table) (P : ℕ → Type 0) where
+  judged-by : P 6 → P 7 → P 8 → P 9 → P 10 → (rs : List Bytes) → By P (judged 𝕋 rs)
+  unfolding judged
+  judged-by p6 p7 p8 p9 p10 rs =
+      refusal-by P 6 (faultOf (check6 𝕋) rs) _ p6
+      (refusal-by P 7 (faultOf (check7 𝕋) rs) _ p7
+      (refusal-by P 8 (faultOf (check8 𝕋) rs) _ p8
+      (refusal-by P 9 (faultOf (check9 𝕋) rs) _ p9
+      (refusal-by P 10 (unless (𝕋 .version (firstOf rs)) 0) _ p10 tt))))
+
+  pub structure-by : P 3 → P 4 → P 5 → P 6 → P 7 → P 8 → P 9 → P 10 → (f : Bytes) → By P (structure 𝕋 f)
+  unfolding structure
+  structure-by p3 p4 p5 p6 p7 p8 p9 p10 f = refusal-by P 3 (unless (leb (length f) mostBytes) 0) _ p3 (go (lines f))
+    where
+      go : (ls : Lines) → By P (ofLines (judged 𝕋) ls)
+      go (bad i) = p4
+      go (good rs) =
+          refusal-by P 5 (unless (leb (length rs) mostRecords) mostRecords) (judged 𝕋 rs) p5 (judged-by p6 p7 p8 p9 p10 rs)
+
+-- a refusal within the size limits is one on structure
 abbrev pub Structural : Answer → Type 0
-Structural (refused n i) = (n ≢ 3) × (n ≢ 5)
-Structural (passed g t n) = Unit {0}
-
-refusal-structural : (n : ℕ) (o : Option ℕ) (a : Answer) → n ≢ 3 → n ≢ 5 → Structural a → Structural (refusal n o a)
-refusal-structural n none a p q k = k
-refusal-structural n (some i) a p q k = (p, q)
+Structural = By (λ n. (n ≢ 3) × (n ≢ 5))
 
 module _ (𝕋 : Table) where
   judged-structural : (rs : List Bytes) → Structural (judged 𝕋 rs)
-  unfolding judged
-  judged-structural rs =
-      refusal-structural 6 (faultOf (check6 𝕋) rs) _ (omega arith) (omega arith)
-      (refusal-structural 7 (faultOf (check7 𝕋) rs) _ (omega arith) (omega arith)
-      (refusal-structural 8 (faultOf (check8 𝕋) rs) _ (omega arith) (omega arith)
-      (refusal-structural 9 (faultOf (check9 𝕋) rs) _ (omega arith) (omega arith)
-      (refusal-structural 10 (unless (𝕋 .version (firstOf rs)) 0) _ (omega arith) (omega arith) tt))))
+  judged-structural =
+      judged-by 𝕋 (λ n. (n ≢ 3) × (n ≢ 5))
+      (omega arith, omega arith) (omega arith, omega arith) (omega arith, omega arith) (omega arith, omega arith) (omega arith, omega arith)
 
   pub structure-structural : (f : Bytes) → Limits f → Structural (structure 𝕋 f)
   unfolding structure

@@ -51,7 +51,7 @@ bad-near f n e = omega (arith, ended-bad (readFrom (text [] []) f) n e, done-rea
 
 -- ---- the records' part
 
-Within : ℕ → Option ℕ → Type 0
+pub Within : ℕ → Option ℕ → Type 0
 Within k none = Unit {0}
 Within k (some i) = i ≤ k
 
@@ -68,12 +68,12 @@ fault-within K s i k (r ∷ rs) h = go (K .ok s r) (faultFrom K (K .next s r) (s
     go true o w = w
     go false o w = omega arith
 
-unless-within : (b : Bool) (i : ℕ) → i ≤ mostBytes → Within mostBytes (unless b i)
+pub unless-within : (b : Bool) (i : ℕ) → i ≤ mostBytes → Within mostBytes (unless b i)
 unfolding Within
 unless-within true i h = tt
 unless-within false i h = h
 
-near : (n : ℕ) (o : Option ℕ) (a : Answer) → Within mostBytes o → Near a → Near (refusal n o a)
+pub near : (n : ℕ) (o : Option ℕ) (a : Answer) → Within mostBytes o → Near a → Near (refusal n o a)
 unfolding Within
 near n none a w h = h
 near n (some i) a w h = w

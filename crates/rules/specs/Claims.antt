@@ -3,16 +3,17 @@ use Prim.Native.Nat.{ℕ, _*_, _≤_}
 use mathlib.Core.Path.{_≡_}
 use mathlib.Core.Bool.{true}
 use mathlib.Core.Logic.{_↔_, _≢_}
-use lib.ListN.{length, drop}
+use lib.ListN.{length, take, drop}
 use Rattle.format.specs.Bytes.{Bytes, pairs}
 use Rattle.format.specs.Doc.{Doc, write}
 use Rattle.format.specs.Cwr22.{cwr22}
 use Rattle.format.specs.WellFormed.{WellFormed}
-use Rattle.format.specs.Structure.{Answer, passed, refused}
+use Rattle.format.specs.Structure.{passed, refused}
 use Rattle.format.specs.Claims.{Limits, Content, lengths, Near}
 use Rattle.rules.specs.Tables.{Tables, languageSize, societySize, categorySize, rightTable}
 use Rattle.rules.specs.Values.{largestTolerance}
-use Rattle.rules.specs.Outcome.{Outcome, check, shortTolerance}
+use Rattle.rules.specs.Verdicts.{findingBytes, fileFindings, fileVerdicts}
+use Rattle.rules.specs.Outcome.{Outcome, check, content, shortTolerance}
 
 -- what is lent beside the file is in order: tolerance and tables (1, 2), and a buffer entry for each record, the text before a CR LF (11)
 pub record InOrder (tables : Tables) (t : ℕ) (f v g : Bytes) : Type 0 where
@@ -39,10 +40,18 @@ pub record Checks : Type 0 where
   -- and the counts are the lengths of that one list
   pub counts : (tables : Tables) (t : ℕ) (d : Doc) (v g : Bytes) → InOrder tables t (write d) v g → Limits (write d) → WellFormed cwr22 d
       → check tables t (write d) v g .answer ≡ lengths d
+  -- nothing passes that is not in order and within the limits
+  pub no-other : (tables : Tables) (t : ℕ) (f v g : Bytes) → Passes (check tables t f v g) → InOrder tables t f v g × Limits f
   -- a refused call leaves both buffers as they were
   pub untouched : (tables : Tables) (t : ℕ) (f v g : Bytes) (n i : ℕ) → check tables t f v g .answer ≡ refused n i
       → (check tables t f v g .verdicts ≡ v) × (check tables t f v g .findings ≡ g)
-  -- a call that passes leaves the bytes beyond one entry a record, and no buffer grows
+  -- a call that passes writes one entry for each of the n records,
+  pub entries : (tables : Tables) (t : ℕ) (f v g : Bytes) (k m n : ℕ) → check tables t f v g .answer ≡ passed k m n
+      → (take n (check tables t f v g .verdicts) ≡ fileVerdicts tables t (content f))
+      × (take (8 * n) (check tables t f v g .findings) ≡ findingBytes (fileFindings tables t (content f)))
+  pub one-each : (tables : Tables) (t : ℕ) (f v g : Bytes) (k m n : ℕ) → check tables t f v g .answer ≡ passed k m n
+      → (length (fileVerdicts tables t (content f)) ≡ n) × (length (fileFindings tables t (content f)) ≡ n)
+  -- leaves the bytes beyond them, and no buffer grows
   pub beyond : (tables : Tables) (t : ℕ) (f v g : Bytes) (k m n : ℕ) → check tables t f v g .answer ≡ passed k m n
       → (drop n (check tables t f v g .verdicts) ≡ drop n v) × (drop (8 * n) (check tables t f v g .findings) ≡ drop (8 * n) g)
   pub as-long : (tables : Tables) (t : ℕ) (f v g : Bytes)

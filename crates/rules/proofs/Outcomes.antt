@@ -1,0 +1,193 @@
+-- What is claimed of the outcome of a check (specs/Claims) holds. Assumes nothing.
+use Prim.Native.Nat.{ℕ, _*_, _≤_}
+use native.Mathlib.Omega.{arith}
+use mathlib.Core.Path.{_≡_, refl, sym, ap, _∙_}
+use mathlib.Core.Logic.{_≢_}
+use mathlib.Core.Bool.{Bool, _&&_}
+use lib.ListN.{length, take, drop, length-append, length-drop}
+use lib.Seq.{take-append-seam, drop-append-seam}
+use lib.Dec.{T, leb, leb→le, le→leb}
+use Rattle.format.specs.Bytes.{Bytes}
+use Rattle.format.specs.Doc.{write}
+use Rattle.format.specs.Cwr22.{cwr22}
+use Rattle.format.specs.Structure.{Answer, refused, passed, unless, structure}
+use Rattle.format.specs.Room.{inRoom, leftIn}
+use Rattle.format.specs.Claims.{Near}
+use Rattle.format.proofs.Logic.{is-true, is-T, both, left, right}
+use Rattle.format.proofs.Answers.{tested, untested, By, refusal-by, structure-by}
+use Rattle.format.proofs.Near.{near, unless-within}
+use Rattle.format.proofs.At22.{demand3-22, nearby-22}
+use Rattle.rules.specs.Tables.{Tables, languageSize, societySize, categorySize, rightTable}
+use Rattle.rules.specs.Values.{largestTolerance}
+use Rattle.rules.specs.Verdicts.{findingBytes, fileFindings, fileVerdicts}
+use Rattle.rules.specs.Outcome.{answer, content, check, shortTolerance}
+use Rattle.rules.specs.Claims.{InOrder, Checks}
+use Rattle.rules.proofs.Joined.{length-findings}
+use Rattle.rules.proofs.Each.{pairs-counted, verdicts-each, findings-each}
+
+-- ---- 11, and what is left in a buffer
+
+room-passed : (enough : ℕ → Bool) (a : Answer) (k m n : ℕ) → inRoom enough a ≡ passed k m n → (a ≡ passed k m n) × T (enough n)
+room-passed enough (refused i j) k m n e = let z : _≡_ {A = ℕ} 0 1 = cc in absurd (omega arith)
+room-passed enough (passed g t r) k m n e =
+    let p = tested 11 0 (enough r) (passed g t r) k m n e in
+    let same : r ≡ n = cc (p .1) in
+    (p .1, rw same at (p .0))
+
+-- room enough for as many records as are answered
+in-room : (enough : ℕ → Bool) (a : Answer) → ((k m n : ℕ) → a ≡ passed k m n → T (enough n)) → inRoom enough a ≡ a
+in-room enough (refused n i) h = refl
+in-room enough (passed g t r) h = untested 11 0 (enough r) (passed g t r) (h g t r refl)
+
+room-by : (P : ℕ → Type 0) (enough : ℕ → Bool) (a : Answer) → P 11 → By P a → By P (inRoom enough a)
+room-by P enough (refused n i) p h = h
+room-by P enough (passed g t r) p h = refusal-by P 11 (unless (enough r) 0) (passed g t r) p h
+
+room-near : (enough : ℕ → Bool) (a : Answer) → Near a → Near (inRoom enough a)
+room-near enough (refused n i) h = h
+room-near enough (passed g t r) h = near 11 (unless (enough r) 0) (passed g t r) (unless-within (enough r) 0 (omega arith)) h
+
+-- as many bytes as are new
+module _ (k m n size : ℕ) (new old : Bytes) (e : length new ≡ size) where
+  left-front : take size (leftIn (passed k m n) new old) ≡ new
+  left-front = rw (← e) (take-append-seam new (drop (length new) old))
+
+  left-beyond : drop size (leftIn (passed k m n) new old) ≡ drop size old
+  left-beyond = rw (← e) (drop-append-seam new (drop (length new) old))
+
+left-length : (a : Answer) (new old : Bytes) → ((k m n : ℕ) → a ≡ passed k m n → length new ≤ length old)
+    → length (leftIn a new old) ≡ length old
+left-length (refused n i) new old h = refl
+left-length (passed g t r) new old h =
+    omega (arith, length-append new (drop (length new) old), length-drop (length new) old, h g t r refl)
+
+-- ---- one answer is not another
+
+not-refused : (k : ℕ) (a : Answer) (i : ℕ) → By (λ n. n ≢ k) a → a ≢ refused k i
+not-refused k (refused n j) i p e = p (cc)
+not-refused k (passed g t n) i p e = let z : _≡_ {A = ℕ} 0 1 = cc in omega arith
+
+never-both : {a : Answer} (n i k m r : ℕ) → a ≡ refused n i → a ≡ passed k m r → ⊥
+never-both n i k m r e p = let z : _≡_ {A = ℕ} 0 1 = cc in omega arith
+
+-- ---- the answer
+
+abbrev enough : ℕ → ℕ → ℕ → Bool
+enough v g r = leb r v && leb (8 * r) g
+
+module _ (tables : Tables) (t : ℕ) (f v g : Bytes) where
+  abbrev given : Answer
+  given = answer tables t f (length v) (length g)
+
+  -- with all in order the structure decides
+  pub in-order : InOrder tables t f v g → given ≡ structure cwr22 f
+  unfolding answer
+  in-order o =
+      untested 1 0 (leb t largestTolerance) _ (le→leb t largestTolerance (o .tolerance))
+      ∙ untested 2 0 (rightTable languageSize (tables .languages)) _ (is-T _ (o .languages))
+      ∙ untested 2 1 (rightTable societySize (tables .societies)) _ (is-T _ (o .societies))
+      ∙ untested 2 2 (rightTable categorySize (tables .categories)) _ (is-T _ (o .categories))
+      ∙ in-room (enough (length v) (length g)) (structure cwr22 f) room
+    where
+      room : (k m n : ℕ) → structure cwr22 f ≡ passed k m n → T (enough (length v) (length g) n)
+      room k m n e =
+          let same = pairs-counted f k m n e in
+          both (leb n (length v)) (leb (8 * n) (length g))
+          (le→leb n (length v) (rw same at (o .inV)))
+          (le→leb (8 * n) (length g) (rw same at (o .inF)))
+
+  -- a place is at most 2, or it is the structure's
+  given-near : Near given
+  unfolding answer
+  given-near =
+      near 1 _ _ (unless-within (leb t largestTolerance) 0 (omega arith))
+      (near 2 _ _ (unless-within (rightTable languageSize (tables .languages)) 0 (omega arith))
+      (near 2 _ _ (unless-within (rightTable societySize (tables .societies)) 1 (omega arith))
+      (near 2 _ _ (unless-within (rightTable categorySize (tables .categories)) 2 (omega arith))
+      (room-near (enough (length v) (length g)) (structure cwr22 f) (nearby-22 f .0)))))
+
+  module _ (k m n : ℕ) (e : given ≡ passed k m n) where
+    -- nothing passes unless all is in order and the structure passes, with the same numbers
+    pub passed-order : InOrder tables t f v g × (structure cwr22 f ≡ passed k m n)
+    unfolding answer
+    passed-order =
+        let (tolerance, e1) = tested 1 0 (leb t largestTolerance) _ k m n e in
+        let (languages, e2) = tested 2 0 (rightTable languageSize (tables .languages)) _ k m n e1 in
+        let (societies, e3) = tested 2 1 (rightTable societySize (tables .societies)) _ k m n e2 in
+        let (categories, e4) = tested 2 2 (rightTable categorySize (tables .categories)) _ k m n e3 in
+        let (e5, room) = room-passed (enough (length v) (length g)) (structure cwr22 f) k m n e4 in
+        let same = pairs-counted f k m n e5 in (
+          record {
+            tolerance = leb→le t largestTolerance tolerance;
+            languages = is-true _ languages;
+            societies = is-true _ societies;
+            categories = is-true _ categories;
+            inV = rw same (leb→le n (length v) (left (leb n (length v)) (leb (8 * n) (length g)) room));
+            inF = rw same (leb→le (8 * n) (length g) (right (leb n (length v)) (leb (8 * n) (length g)) room));
+          },
+          e5,
+        )
+
+    -- so many bytes go into the buffers, and they have room
+    verdicts-count : length (fileVerdicts tables t (content f)) ≡ n
+    verdicts-count = verdicts-each f k m n (passed-order .1) tables t
+
+    sets-count : length (fileFindings tables t (content f)) ≡ n
+    sets-count = findings-each f k m n (passed-order .1) tables t
+
+    findings-count : length (findingBytes (fileFindings tables t (content f))) ≡ 8 * n
+    findings-count = length-findings (fileFindings tables t (content f)) ∙ ap (λ r. 8 * r) sets-count
+
+    verdicts-fit : length (fileVerdicts tables t (content f)) ≤ length v
+    verdicts-fit = rw (verdicts-count, ← pairs-counted f k m n (passed-order .1)) (passed-order .0 .inV)
+
+    findings-fit : length (findingBytes (fileFindings tables t (content f))) ≤ length g
+    findings-fit = rw (findings-count, ← pairs-counted f k m n (passed-order .1)) (passed-order .0 .inF)
+
+-- the short form's tolerance is not too large, and no other test refuses by 1
+short-answer : (tables : Tables) (f : Bytes) (v g : ℕ) → By (λ n. n ≢ 1) (answer tables shortTolerance f v g)
+unfolding answer
+short-answer tables f v g =
+    refusal-by P 2 (unless (rightTable languageSize (tables .languages)) 0) _ (omega arith)
+    (refusal-by P 2 (unless (rightTable societySize (tables .societies)) 1) _ (omega arith)
+    (refusal-by P 2 (unless (rightTable categorySize (tables .categories)) 2) _ (omega arith)
+    (room-by P (enough v g) (structure cwr22 f) (omega arith)
+    (structure-by cwr22 P
+    (omega arith) (omega arith) (omega arith) (omega arith) (omega arith) (omega arith) (omega arith) (omega arith) f))))
+  where
+    P : ℕ → Type 0
+    P n = n ≢ 1
+
+-- ---- the claims
+
+pub checks : Checks
+unfolding check
+checks = record {
+  exactly = λ tables t f v g o l. (
+    λ (k, m, n, e). demand3-22 .exactly f .0 (k, m, n, sym (in-order tables t f v g o) ∙ e) .1,
+    λ c. let (k, m, n, e) = demand3-22 .exactly f .1 (l, c) in (k, m, n, in-order tables t f v g o ∙ e),
+  );
+  else-refused = λ tables t f v g o l. (
+    λ (n, i, e) c. let (k, m, r, p) = demand3-22 .exactly f .1 (l, c) in never-both n i k m r (sym (in-order tables t f v g o) ∙ e) p,
+    λ h. let (n, i, e, _, _) = demand3-22 .else-refused f l .1 h in (n, i, in-order tables t f v g o ∙ e),
+  );
+  counts = λ tables t d v g o l w. in-order tables t (write d) v g o ∙ demand3-22 .counts d w l;
+  no-other = λ tables t f v g (k, m, n, e).
+      let (o, p) = passed-order tables t f v g k m n e in
+      (o, demand3-22 .exactly f .0 (k, m, n, p) .0);
+  untouched = λ tables t f v g n i e. rw e (refl, refl);
+  entries = λ tables t f v g k m n e.
+      rw e (
+        left-front k m n n (fileVerdicts tables t (content f)) v (verdicts-count tables t f v g k m n e),
+        left-front k m n (8 * n) (findingBytes (fileFindings tables t (content f))) g (findings-count tables t f v g k m n e),
+      );
+  one-each = λ tables t f v g k m n e. (verdicts-count tables t f v g k m n e, sets-count tables t f v g k m n e);
+  beyond = λ tables t f v g k m n e.
+      rw e (
+        left-beyond k m n n (fileVerdicts tables t (content f)) v (verdicts-count tables t f v g k m n e),
+        left-beyond k m n (8 * n) (findingBytes (fileFindings tables t (content f))) g (findings-count tables t f v g k m n e),
+      );
+  as-long = λ tables t f v g. (left-length _ _ v (verdicts-fit tables t f v g), left-length _ _ g (findings-fit tables t f v g));
+  short-form = λ tables f v g i. not-refused 1 _ i (short-answer tables f (length v) (length g));
+  near = given-near;
+}
