@@ -49,7 +49,7 @@ docA =
       trailer = trl;
     }
 
-fileA : Bytes
+unfoldable pub fileA : Bytes
 unfolding docA hdr nwr swr grh grt trl write written decimal behind
 fileA = write docA
 

@@ -1,16 +1,14 @@
 -- Worked examples: transactions in which each finding holds at least once, and neighbours in which it does not. All are computed by one
 -- proof. Assumes nothing.
-use Prim.Native.Nat.{ℕ, suc, _+_, _-_}
-use Prim.Native.String.{String}
+use Prim.Native.Nat.{ℕ, suc, _-_}
 use mathlib.Core.Path.{_≡_, refl}
 use mathlib.Core.Bool.{Bool, cond}
-use mathlib.Core.List.{List, [], _∷_, _++_, map}
-use lib.ListN.{length, take, drop, replicate}
+use mathlib.Core.List.{List, [], _∷_, map}
 use Rattle.format.specs.Ascii.{ascii}
 use Rattle.format.specs.Bytes.{Bytes}
 use Rattle.format.specs.Fields.{fieldOf, isBlank, areDigits, numberOf}
 use Rattle.format.specs.Stages.{stages, spots, begins}
-use Rattle.rules.specs.Tables.{Tables, entries, isIn}
+use Rattle.rules.specs.Tables.{entries, isIn}
 use Rattle.rules.specs.Values.{areZeros, isDate, daysIn, isDuration, isIswc, iswcSum, shareOf, badShare}
 use Rattle.rules.specs.Header.{is16, is17, is18, is19, is20, is21, is22, is23}
 use Rattle.rules.specs.Publisher.{typeInForce, earlierE, is25, is26, is27, is28, is29, is30, is31, is32, is33, is34, is35, is36, is37}
@@ -22,35 +20,13 @@ use Rattle.rules.specs.Writers.{is4, is5, is6, is7, is10}
 use Rattle.rules.specs.Order.{taken, reached, is8}
 use Rattle.rules.specs.Chains.{chain, is11, is12, is13, is14}
 use Rattle.rules.specs.Works.{is0, is9, is15, headerFindings, transactionFindings}
+use Rattle.rules.specs.Listing.{listingTables}
+use Rattle.rules.proofs.Made.{Entry, _is_, made, header, publisher, writer}
 
--- ---- records, as they stand in a file
+-- ---- records
 
--- a field's start, counted from 1, and its text
-infix 90 _is_
-data Entry : Type 0 where
-  _is_ : ℕ → String → Entry
-
-written : Bytes → List Entry → Bytes
-written r [] = r
-written r ((start is text) ∷ es) = written (take (start - 1) r ++ ascii text ++ drop (start - 1 + length (ascii text)) r) es
-
--- a record of a type and a length, spaces where no text is given
-made : String → ℕ → List Entry → Bytes
-made type n es = written (replicate n 32) ((1 is type) ∷ es)
-
-tables : Tables
-tables = record { languages = ascii "ENFRDE"; societies = ascii "035044058"; categories = ascii "POPJAZSER" }
-
--- each with no finding of its own; entries put other text over it
 nwr : List Entry → Bytes
-nwr es = made "NWR" 260 (20 is "A" ∷ 82 is "1" ∷ 107 is "00000000" ∷ 127 is "POP000000" ∷ es)
-
-publisher : String → List Entry → Bytes
-publisher type es =
-    made type 183 (20 is "01" ∷ 22 is "1" ∷ 31 is "P" ∷ 77 is "E " ∷ 116 is "00000" ∷ 124 is "00000" ∷ 132 is "00000" ∷ es)
-
-writer : String → List Entry → Bytes
-writer type es = made type 180 (20 is "1" ∷ 29 is "W" ∷ 105 is "C" ∷ 130 is "10000" ∷ 138 is "10000" ∷ 146 is "10000" ∷ es)
+nwr es = header "NWR" es
 
 rec : List Entry → Bytes
 rec es = made "REC" 540 (20 is "20240229" ∷ 88 is "000330" ∷ es)
@@ -82,7 +58,7 @@ data Example : Type 0 where
 
 -- in a group for NWR, with tolerance 6
 computed : Example → List (List ℕ)
-computed (found h ds fs) = map (numbersFrom 0) (transactionFindings tables 6 (ascii "NWR") (record { header = h; details = ds }))
+computed (found h ds fs) = map (numbersFrom 0) (transactionFindings listingTables 6 (ascii "NWR") (record { header = h; details = ds }))
 
 said : Example → List (List ℕ)
 said (found h ds fs) = fs
@@ -99,7 +75,7 @@ examples =
     found (nwr []) (whole ∷ []) (nothing ∷ nothing ∷ [])
     ∷ found (nwr []) (spu ∷ half ∷ []) (nothing ∷ nothing ∷ nothing ∷ [])
     -- the header and its transaction
-    ∷ found (made "REV" 260 (20 is "A" ∷ 82 is "1" ∷ 107 is "00000000" ∷ 127 is "POP000000" ∷ [])) (whole ∷ []) (only 0 ∷ nothing ∷ [])
+    ∷ found (header "REV" []) (whole ∷ []) (only 0 ∷ nothing ∷ [])
     ∷ found (nwr []) (owner (116 is "05007" ∷ []) ∷ writer "SWR" (130 is "04993" ∷ 138 is "00000" ∷ 146 is "00000" ∷ []) ∷ []) ((1 ∷ 2 ∷ []) ∷ only 30 ∷ nothing ∷ [])
     ∷ found (nwr []) (writer "SWR" (130 is "09993" ∷ 138 is "10000" ∷ 146 is "10000" ∷ []) ∷ []) (only 3 ∷ nothing ∷ [])
     ∷ found (nwr []) [] ((4 ∷ 5 ∷ []) ∷ [])
@@ -135,5 +111,5 @@ examples =
     ∷ []
 
 all-examples : map computed examples ≡ map said examples
-unfolding examples computed said numbersFrom nothing only whole owner half spu rec writer publisher nwr tables made written transactionFindings headerFindings ownFindings is0 is1 is2 is3 is4 is5 is6 is7 is8 is9 is10 is11 is12 is13 is14 is15 is16 is17 is18 is19 is20 is21 is22 is23 is24 is25 is26 is27 is28 is29 is30 is31 is32 is33 is34 is35 is36 is37 is38 is39 is40 is41 is42 is43 is44 is45 is46 fieldOf isBlank areDigits numberOf isIn entries areZeros isDate daysIn isDuration isIswc iswcSum shareOf badShare typeInForce earlierE designationInForce dateInForce durationInForce publishersTotal writersTotal taken reached spots stages begins chain
+unfolding examples computed said numbersFrom nothing only whole owner half spu rec nwr writer publisher header made transactionFindings headerFindings ownFindings is0 is1 is2 is3 is4 is5 is6 is7 is8 is9 is10 is11 is12 is13 is14 is15 is16 is17 is18 is19 is20 is21 is22 is23 is24 is25 is26 is27 is28 is29 is30 is31 is32 is33 is34 is35 is36 is37 is38 is39 is40 is41 is42 is43 is44 is45 is46 fieldOf isBlank areDigits numberOf isIn entries areZeros isDate daysIn isDuration isIswc iswcSum shareOf badShare typeInForce earlierE designationInForce dateInForce durationInForce publishersTotal writersTotal taken reached spots stages begins chain
 all-examples = refl

@@ -5,4 +5,6 @@ pub mod Joined
 pub mod Each
 pub mod Outcomes
 pub mod Starred
+pub mod Made
 pub mod Examples
+pub mod Files

@@ -1,0 +1,188 @@
+-- Whole files with their outcome, computed: the claims of a check's outcome are not empty. Assumes nothing.
+use Prim.Native.Nat.{ℕ, _<_}
+use Prim.Native.String.{String}
+use mathlib.Core.Path.{_≡_, refl}
+use mathlib.Core.List.{List, [], _∷_, _++_, map}
+use lib.ListN.{length, replicate}
+use borrow.Author.Tests.{lt-leb}
+use Rattle.format.specs.Ascii.{ascii}
+use Rattle.format.specs.Bytes.{Bytes, isText, decimal, unlines}
+use Rattle.format.specs.Fields.{fieldOf, isBlank, areDigits, numberOf}
+use Rattle.format.specs.Stages.{stages, spots, begins}
+use Rattle.format.specs.Cwr22.{rows22, version22}
+use Rattle.format.specs.Lines.{lines}
+use Rattle.format.specs.Structure.{Answer, refused, passed, judged, structure}
+use Rattle.format.specs.Tree.{tree}
+use Rattle.format.proofs.Examples.{fileA}
+use Rattle.rules.specs.Tables.{Tables, entries, isIn, rightTable}
+use Rattle.rules.specs.Values.{areZeros, isDate, daysIn, isDuration, isIswc, iswcSum, shareOf, badShare}
+use Rattle.rules.specs.Header.{is16, is17, is18, is19, is20, is21, is22, is23}
+use Rattle.rules.specs.Publisher.{typeInForce, earlierE, is25, is26, is27, is28, is29, is30, is31, is32, is33, is34, is35, is36, is37}
+use Rattle.rules.specs.Writer.{designationInForce, is38, is39, is40, is41, is42}
+use Rattle.rules.specs.Other.{is24, is43, dateInForce, durationInForce, is44, is45, is46}
+use Rattle.rules.specs.Findings.{ownFindings, setOf, bytesOf, countOf, lowestOf, level, worst}
+use Rattle.rules.specs.Totals.{publishersTotal, writersTotal, is1, is2, is3}
+use Rattle.rules.specs.Writers.{is4, is5, is6, is7, is10}
+use Rattle.rules.specs.Order.{taken, reached, is8}
+use Rattle.rules.specs.Chains.{chain, is11, is12, is13, is14}
+use Rattle.rules.specs.Works.{is0, is9, is15, headerFindings, transactionFindings}
+use Rattle.rules.specs.Verdicts.{findingBytes, rejects, raised, isStray, groupFindings, fileFindings, transactionVerdicts, groupVerdicts, fileVerdicts}
+use Rattle.rules.specs.Outcome.{answer, Outcome, check}
+use Rattle.rules.specs.Listing.{figure, recordLine, answerLine, listed, mostInput, listingTables, listing}
+use Rattle.rules.proofs.Made.{_is_, made, header, writer}
+
+-- ---- a file with each of the five verdicts
+
+opening : String → Bytes
+opening number = made "GRH" 28 (4 is "NWR" ∷ 7 is number ∷ [])
+
+closing : String → Bytes
+closing numbers = made "GRT" 37 (4 is numbers ∷ [])
+
+fileB : Bytes
+fileB =
+    unlines
+    (made "HDR" 167 (102 is "2.2002" ∷ [])
+    ∷ opening "00001"
+    -- an ISWC with a wrong digit is defaulted, SWR is accepted and TER rejected
+    ∷ header "NWR" (4 is "0000000000000000" ∷ 96 is "T0345246802" ∷ [])
+    ∷ writer "SWR" (4 is "0000000000000001" ∷ [])
+    ∷ made "TER" 24 (4 is "0000000000000002" ∷ [])
+    -- no writer CA, A or C: the transaction is rejected
+    ∷ header "NWR" (4 is "0000000100000000" ∷ [])
+    ∷ writer "SWR" (4 is "0000000100000001" ∷ 105 is "AR" ∷ [])
+    ∷ closing "000010000000200000007"
+    -- a REV in a group for NWR: the group is rejected
+    ∷ opening "00002"
+    ∷ header "REV" (4 is "0000000000000000" ∷ [])
+    ∷ writer "SWR" (4 is "0000000000000001" ∷ [])
+    ∷ closing "000020000000100000004"
+    ∷ made "TRL" 24 (4 is "000020000000300000013" ∷ [])
+    ∷ [])
+
+-- a set's eight bytes
+none : Bytes
+none = replicate 8 0
+
+findingsB : Bytes
+findingsB =
+    none
+    ++ none
+    -- 19
+    ++ (0 ∷ 0 ∷ 8 ∷ 0 ∷ 0 ∷ 0 ∷ 0 ∷ 0 ∷ [])
+    ++ none
+    -- 24
+    ++ (0 ∷ 0 ∷ 0 ∷ 1 ∷ 0 ∷ 0 ∷ 0 ∷ 0 ∷ [])
+    -- 5
+    ++ (32 ∷ 0 ∷ 0 ∷ 0 ∷ 0 ∷ 0 ∷ 0 ∷ 0 ∷ [])
+    ++ none
+    ++ none
+    ++ none
+    -- 0
+    ++ (1 ∷ 0 ∷ 0 ∷ 0 ∷ 0 ∷ 0 ∷ 0 ∷ 0 ∷ [])
+    ++ none
+    ++ none
+    ++ none
+
+-- ---- outcomes
+
+-- tables, tolerance, file and buffers; answer and buffers
+data Example : Type 0 where
+  checked : Tables → ℕ → Bytes → Bytes → Bytes → Outcome → Example
+
+computed : Example → Outcome
+computed (checked tables t f v g o) = check tables t f v g
+
+said : Example → Outcome
+said (checked tables t f v g o) = o
+
+-- with these tables
+goes : ℕ → Bytes → Bytes → Bytes → Answer → Bytes → Bytes → Example
+goes t f v g a v' g' = checked listingTables t f v g (record { answer = a; verdicts = v'; findings = g' })
+
+-- a refusal leaves the buffers
+stops : Tables → ℕ → Bytes → Bytes → Bytes → ℕ → ℕ → Example
+stops tables t f v g n i = checked tables t f v g (record { answer = refused n i; verdicts = v; findings = g })
+
+lent : Bytes → Bytes → Bytes → Tables
+lent ls ss cs = record { languages = ls; societies = ss; categories = cs }
+
+examples : List Example
+examples =
+    goes 6 fileA (replicate 6 255) (replicate 48 255) (passed 1 1 6) (replicate 6 0) (replicate 48 0)
+    ∷ goes 6 fileB (replicate 13 255 ++ ascii "abc") (replicate 104 255 ++ ascii "de")
+    (passed 2 3 13)
+    ((0 ∷ 0 ∷ 1 ∷ 0 ∷ 2 ∷ 3 ∷ 3 ∷ 0 ∷ 4 ∷ 4 ∷ 4 ∷ 4 ∷ 0 ∷ []) ++ ascii "abc")
+    (findingsB ++ ascii "de")
+    -- 1, and before 2
+    ∷ stops listingTables 7 fileA (replicate 6 255) (replicate 48 255) 1 0
+    ∷ stops (lent (ascii "E") (ascii "0") (ascii "P")) 7 [] [] [] 1 0
+    -- 2: each table, in order, and before the structure
+    ∷ stops (lent (ascii "ENF") (ascii "0") (ascii "P")) 6 [] [] [] 2 0
+    ∷ stops (lent [] (ascii "0350") (ascii "P")) 0 [] [] [] 2 1
+    ∷ stops (lent [] [] (ascii "POPJA")) 0 [] [] [] 2 2
+    -- 1,025 entries, and 1,024
+    ∷ stops (lent (replicate 2050 65) [] []) 6 [] [] [] 2 0
+    ∷ stops (lent [] (replicate 3075 65) []) 6 [] [] [] 2 1
+    ∷ stops (lent [] [] (replicate 3075 65)) 6 [] [] [] 2 2
+    -- the structure, before 11
+    ∷ stops (lent (replicate 2048 65) (replicate 3072 65) (replicate 3072 65)) 6 [] [] [] 7 0
+    -- 11: one byte less than a verdict for each record, and than eight bytes of findings
+    ∷ stops listingTables 6 fileA (replicate 5 255) (replicate 48 255) 11 0
+    ∷ stops listingTables 6 fileA (replicate 6 255) (replicate 47 255) 11 0
+    ∷ []
+
+-- ---- listings
+
+texts : List String → Bytes
+texts [] = []
+texts (line ∷ ls) = ascii line ++ 10 ∷ texts ls
+
+-- an input, and what is printed
+data Printed : Type 0 where
+  prints : Bytes → List String → Printed
+
+printed : Printed → Bytes
+printed (prints f ls) = listing f
+
+shown : Printed → Bytes
+shown (prints f ls) = texts ls
+
+listings : List Printed
+listings =
+    prints fileA
+    ("GROUPS 1 TRANSACTIONS 1 RECORDS 6"
+    ∷ "0 HDR 0 0 -"
+    ∷ "1 GRH 0 0 -"
+    ∷ "2 NWR 0 0 -"
+    ∷ "3 SWR 0 0 -"
+    ∷ "4 GRT 0 0 -"
+    ∷ "5 TRL 0 0 -"
+    ∷ [])
+    ∷ prints fileB
+    ("GROUPS 2 TRANSACTIONS 3 RECORDS 13"
+    ∷ "0 HDR 0 0 -"
+    ∷ "1 GRH 0 0 -"
+    ∷ "2 NWR 1 1 19"
+    ∷ "3 SWR 0 0 -"
+    ∷ "4 TER 2 1 24"
+    ∷ "5 NWR 3 1 5"
+    ∷ "6 SWR 3 0 -"
+    ∷ "7 GRT 0 0 -"
+    ∷ "8 GRH 4 0 -"
+    ∷ "9 REV 4 1 0"
+    ∷ "10 SWR 4 0 -"
+    ∷ "11 GRT 4 0 -"
+    ∷ "12 TRL 0 0 -"
+    ∷ [])
+    ∷ prints [] ("REFUSED 7 0" ∷ [])
+    ∷ []
+
+all-files : (map computed examples ≡ map said examples) × (map printed listings ≡ map shown listings)
+unfolding examples computed said goes stops lent findingsB none listings printed shown texts fileA fileB opening closing header writer made check answer rightTable structure judged lines isText decimal rows22 version22 tree findingBytes rejects raised isStray groupFindings fileFindings transactionVerdicts groupVerdicts fileVerdicts setOf bytesOf level worst transactionFindings headerFindings ownFindings is0 is1 is2 is3 is4 is5 is6 is7 is8 is9 is10 is11 is12 is13 is14 is15 is16 is17 is18 is19 is20 is21 is22 is23 is24 is25 is26 is27 is28 is29 is30 is31 is32 is33 is34 is35 is36 is37 is38 is39 is40 is41 is42 is43 is44 is45 is46 fieldOf isBlank areDigits numberOf isIn entries areZeros isDate daysIn isDuration isIswc iswcSum shareOf badShare typeInForce earlierE designationInForce dateInForce durationInForce publishersTotal writersTotal taken reached spots stages begins chain figure recordLine answerLine listed listing countOf lowestOf
+all-files = (refl, refl)
+
+-- more than the program reads
+too-long : (f : Bytes) → mostInput < length f → listing f ≡ texts ("INPUT TOO LONG" ∷ [])
+unfolding listing texts
+too-long f h = rw (lt-leb (length f) mostInput h)
