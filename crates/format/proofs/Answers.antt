@@ -134,23 +134,24 @@ refusal-by P n none a p k = k
 refusal-by P n (some i) a p k = p
 
 module _ (𝕋 : Table) (P : ℕ → Type 0) where
-  judged-by : P 6 → P 7 → P 8 → P 9 → P 10 → (rs : List Bytes) → By P (judged 𝕋 rs)
+  judged-by : ((n : ℕ) → 6 ≤ n → n ≤ 10 → P n) → (rs : List Bytes) → By P (judged 𝕋 rs)
   unfolding judged
-  judged-by p6 p7 p8 p9 p10 rs =
-      refusal-by P 6 (faultOf (check6 𝕋) rs) _ p6
-      (refusal-by P 7 (faultOf (check7 𝕋) rs) _ p7
-      (refusal-by P 8 (faultOf (check8 𝕋) rs) _ p8
-      (refusal-by P 9 (faultOf (check9 𝕋) rs) _ p9
-      (refusal-by P 10 (unless (𝕋 .version (firstOf rs)) 0) _ p10 tt))))
+  judged-by p rs =
+      refusal-by P 6 (faultOf (check6 𝕋) rs) _ (p 6 (omega arith) (omega arith))
+      (refusal-by P 7 (faultOf (check7 𝕋) rs) _ (p 7 (omega arith) (omega arith))
+      (refusal-by P 8 (faultOf (check8 𝕋) rs) _ (p 8 (omega arith) (omega arith))
+      (refusal-by P 9 (faultOf (check9 𝕋) rs) _ (p 9 (omega arith) (omega arith))
+      (refusal-by P 10 (unless (𝕋 .version (firstOf rs)) 0) _ (p 10 (omega arith) (omega arith)) tt))))
 
-  pub structure-by : P 3 → P 4 → P 5 → P 6 → P 7 → P 8 → P 9 → P 10 → (f : Bytes) → By P (structure 𝕋 f)
+  pub structure-by : ((n : ℕ) → 3 ≤ n → n ≤ 10 → P n) → (f : Bytes) → By P (structure 𝕋 f)
   unfolding structure
-  structure-by p3 p4 p5 p6 p7 p8 p9 p10 f = refusal-by P 3 (unless (leb (length f) mostBytes) 0) _ p3 (go (lines f))
+  structure-by p f = refusal-by P 3 (unless (leb (length f) mostBytes) 0) _ (p 3 (omega arith) (omega arith)) (go (lines f))
     where
       go : (ls : Lines) → By P (ofLines (judged 𝕋) ls)
-      go (bad i) = p4
+      go (bad i) = p 4 (omega arith) (omega arith)
       go (good rs) =
-          refusal-by P 5 (unless (leb (length rs) mostRecords) mostRecords) (judged 𝕋 rs) p5 (judged-by p6 p7 p8 p9 p10 rs)
+          refusal-by P 5 (unless (leb (length rs) mostRecords) mostRecords) (judged 𝕋 rs) (p 5 (omega arith) (omega arith))
+          (judged-by (λ n low high. p n (omega arith) high) rs)
 
 -- a refusal within the size limits is one on structure
 abbrev pub Structural : Answer → Type 0
@@ -158,9 +159,7 @@ Structural = By (λ n. (n ≢ 3) × (n ≢ 5))
 
 module _ (𝕋 : Table) where
   judged-structural : (rs : List Bytes) → Structural (judged 𝕋 rs)
-  judged-structural =
-      judged-by 𝕋 (λ n. (n ≢ 3) × (n ≢ 5))
-      (omega arith, omega arith) (omega arith, omega arith) (omega arith, omega arith) (omega arith, omega arith) (omega arith, omega arith)
+  judged-structural = judged-by 𝕋 (λ n. (n ≢ 3) × (n ≢ 5)) (λ n low high. (omega arith, omega arith))
 
   pub structure-structural : (f : Bytes) → Limits f → Structural (structure 𝕋 f)
   unfolding structure

@@ -1,16 +1,16 @@
 -- What is claimed of the outcome of a check (specs/Claims) holds. Assumes nothing.
 use Prim.Native.Nat.{ℕ, _*_, _≤_}
 use native.Mathlib.Omega.{arith}
-use mathlib.Core.Path.{_≡_, refl, sym, ap, _∙_}
+use mathlib.Core.Path.{_≡_, refl, sym, ap, _∙_, subst}
 use mathlib.Core.Logic.{_≢_}
-use mathlib.Core.Bool.{Bool, _&&_}
+use mathlib.Core.Bool.{Bool, true, false, _&&_, false≢true}
 use lib.ListN.{length, take, drop, length-append, length-drop}
 use lib.Seq.{take-append-seam, drop-append-seam}
 use lib.Dec.{T, leb, leb→le, le→leb}
 use Rattle.format.specs.Bytes.{Bytes}
 use Rattle.format.specs.Doc.{write}
 use Rattle.format.specs.Cwr22.{cwr22}
-use Rattle.format.specs.Structure.{Answer, refused, passed, unless, structure}
+use Rattle.format.specs.Structure.{Answer, refused, passed, refusal, unless, structure}
 use Rattle.format.specs.Room.{inRoom, leftIn}
 use Rattle.format.specs.Claims.{Near}
 use Rattle.format.proofs.Logic.{is-true, is-T, both, left, right}
@@ -39,10 +39,6 @@ in-room : (enough : ℕ → Bool) (a : Answer) → ((k m n : ℕ) → a ≡ pass
 in-room enough (refused n i) h = refl
 in-room enough (passed g t r) h = untested 11 0 (enough r) (passed g t r) (h g t r refl)
 
-room-by : (P : ℕ → Type 0) (enough : ℕ → Bool) (a : Answer) → P 11 → By P a → By P (inRoom enough a)
-room-by P enough (refused n i) p h = h
-room-by P enough (passed g t r) p h = refusal-by P 11 (unless (enough r) 0) (passed g t r) p h
-
 room-near : (enough : ℕ → Bool) (a : Answer) → Near a → Near (inRoom enough a)
 room-near enough (refused n i) h = h
 room-near enough (passed g t r) h = near 11 (unless (enough r) 0) (passed g t r) (unless-within (enough r) 0 (omega arith)) h
@@ -61,11 +57,10 @@ left-length (refused n i) new old h = refl
 left-length (passed g t r) new old h =
     omega (arith, length-append new (drop (length new) old), length-drop (length new) old, h g t r refl)
 
--- ---- one answer is not another
+-- ---- one answer is not another, and its number is its own
 
-not-refused : (k : ℕ) (a : Answer) (i : ℕ) → By (λ n. n ≢ k) a → a ≢ refused k i
-not-refused k (refused n j) i p e = p (cc)
-not-refused k (passed g t n) i p e = let z : _≡_ {A = ℕ} 0 1 = cc in omega arith
+refused-by : (P : ℕ → Type 0) {a : Answer} (n i : ℕ) → By P a → a ≡ refused n i → P n
+refused-by P n i p e = subst (By P) e p
 
 never-both : {a : Answer} (n i k m r : ℕ) → a ≡ refused n i → a ≡ passed k m r → ⊥
 never-both n i k m r e p = let z : _≡_ {A = ℕ} 0 1 = cc in omega arith
@@ -144,19 +139,37 @@ module _ (tables : Tables) (t : ℕ) (f v g : Bytes) where
     findings-fit : length (findingBytes (fileFindings tables t (content f))) ≤ length g
     findings-fit = rw (findings-count, ← pairs-counted f k m n (passed-order .1)) (passed-order .0 .inF)
 
--- the short form's tolerance is not too large, and no other test refuses by 1
-short-answer : (tables : Tables) (f : Bytes) (v g : ℕ) → By (λ n. n ≢ 1) (answer tables shortTolerance f v g)
-unfolding answer
-short-answer tables f v g =
-    refusal-by P 2 (unless (rightTable languageSize (tables .languages)) 0) _ (omega arith)
-    (refusal-by P 2 (unless (rightTable societySize (tables .societies)) 1) _ (omega arith)
-    (refusal-by P 2 (unless (rightTable categorySize (tables .categories)) 2) _ (omega arith)
-    (room-by P (enough v g) (structure cwr22 f) (omega arith)
-    (structure-by cwr22 P
-    (omega arith) (omega arith) (omega arith) (omega arith) (omega arith) (omega arith) (omega arith) (omega arith) f))))
-  where
-    P : ℕ → Type 0
-    P n = n ≢ 1
+-- ---- by which numbers a call is refused: by 1 where the tolerance is too large, and else by 2 to 11
+
+module _ (P : ℕ → Type 0) where
+  room-by : (room : ℕ → Bool) (a : Answer) → P 11 → By P a → By P (inRoom room a)
+  room-by room (refused n i) p h = h
+  room-by room (passed g t r) p h = refusal-by P 11 (unless (room r) 0) (passed g t r) p h
+
+  test-by : (n i : ℕ) (b : Bool) (a : Answer) → (b ≡ false → P n) → By P a → By P (refusal n (unless b i) a)
+  test-by n i true a p h = h
+  test-by n i false a p h = p refl
+
+  answer-by : (tables : Tables) (t : ℕ) (f : Bytes) (v g : ℕ) → (leb t largestTolerance ≡ false → P 1) → ((n : ℕ) → 2 ≤ n → n ≤ 11 → P n)
+      → By P (answer tables t f v g)
+  unfolding answer
+  answer-by tables t f v g p1 p =
+      let p2 = p 2 (omega arith) (omega arith) in
+      test-by 1 0 (leb t largestTolerance) _ p1
+      (refusal-by P 2 (unless (rightTable languageSize (tables .languages)) 0) _ p2
+      (refusal-by P 2 (unless (rightTable societySize (tables .societies)) 1) _ p2
+      (refusal-by P 2 (unless (rightTable categorySize (tables .categories)) 2) _ p2
+      (room-by (enough v g) (structure cwr22 f) (p 11 (omega arith) (omega arith))
+      (structure-by cwr22 P (λ n low high. p n (omega arith) (omega arith)) f)))))
+
+-- the short form's tolerance is not too large
+not-by-1 : (tables : Tables) (f : Bytes) (v g : ℕ) → By (λ n. n ≢ 1) (answer tables shortTolerance f v g)
+not-by-1 tables f v g =
+    answer-by (λ n. n ≢ 1) tables shortTolerance f v g (λ e. absurd (false≢true (sym e))) (λ n low high. omega arith)
+
+by-1-to-11 : (tables : Tables) (t : ℕ) (f : Bytes) (v g : ℕ) → By (λ n. (1 ≤ n) × (n ≤ 11)) (answer tables t f v g)
+by-1-to-11 tables t f v g =
+    answer-by (λ n. (1 ≤ n) × (n ≤ 11)) tables t f v g (λ e. (omega arith, omega arith)) (λ n low high. (omega arith, high))
 
 -- ---- the claims
 
@@ -188,6 +201,7 @@ checks = record {
         left-beyond k m n (8 * n) (findingBytes (fileFindings tables t (content f))) g (findings-count tables t f v g k m n e),
       );
   as-long = λ tables t f v g. (left-length _ _ v (verdicts-fit tables t f v g), left-length _ _ g (findings-fit tables t f v g));
-  short-form = λ tables f v g i. not-refused 1 _ i (short-answer tables f (length v) (length g));
+  short-form = λ tables f v g i e. refused-by (λ n. n ≢ 1) 1 i (not-by-1 tables f (length v) (length g)) e refl;
+  numbers = λ tables t f v g n i. refused-by (λ k. (1 ≤ k) × (k ≤ 11)) n i (by-1-to-11 tables t f (length v) (length g));
   near = given-near;
 }

@@ -58,5 +58,7 @@ pub record Checks : Type 0 where
       → (length (check tables t f v g .verdicts) ≡ length v) × (length (check tables t f v g .findings) ≡ length g)
   -- the short form is never refused by 1
   pub short-form : (tables : Tables) (f v g : Bytes) (i : ℕ) → check tables shortTolerance f v g .answer ≢ refused 1 i
-  -- the place of a refusal and the number of records have much room in 32 bits
+  -- a refusal's number is 1 to 11
+  pub numbers : (tables : Tables) (t : ℕ) (f v g : Bytes) (n i : ℕ) → check tables t f v g .answer ≡ refused n i → (1 ≤ n) × (n ≤ 11)
+  -- its place and the number of records have much room in 32 bits
   pub near : (tables : Tables) (t : ℕ) (f v g : Bytes) → Near (check tables t f v g .answer)
