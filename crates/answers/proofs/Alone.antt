@@ -1,0 +1,63 @@
+-- No two cases of the answer stand for one number and place, and an answer packed in one number loses neither a refusal nor the number
+-- of records. Assumes nothing.
+use native.Mathlib.Omega.{arith}
+use mathlib.Core.Path.{_≡_, refl, sym, ap, _∙_}
+use mathlib.Core.List.{[], _∷_}
+use lib.ListN.{getD}
+use Rattle.format.specs.Structure.{Answer as FormatAnswer, refused, passed}
+use Rattle.format.specs.Claims.{Near}
+use Rattle.answers.specs.declared.Answer.{Answer}
+use Rattle.answers.specs.declared.Answer.the-variants.{Tolerance, Table, Long, Many, Line, Shape, Place, Number, Total, Version, Short, Passed}
+use Rattle.answers.specs.Numbers.{answerOf, packedOf}
+use Rattle.answers.specs.Claims.{Alike, Named}
+
+-- ---- the cases
+
+-- the case of a refusal, by its number (0 is none), or of the three numbers
+caseOf : FormatAnswer → Answer
+caseOf (refused n i) =
+    getD
+    (Short ∷ Tolerance ∷ Table i ∷ Long ∷ Line i ∷ Many ∷ Shape i ∷ Place i ∷ Number i ∷ Total i ∷ Version ∷ [])
+    n
+    Short
+caseOf (passed g t r) = Passed g t r
+
+case-found : (a : Answer) → caseOf (answerOf a) ≡ a
+unfolding caseOf
+case-found Tolerance = refl
+case-found (Table i) = refl
+case-found Long = refl
+case-found Many = refl
+case-found (Line i) = refl
+case-found (Shape i) = refl
+case-found (Place i) = refl
+case-found (Number i) = refl
+case-found (Total i) = refl
+case-found Version = refl
+case-found Short = refl
+case-found (Passed g t r) = refl
+
+pub answer-alone : (a b : Answer) → answerOf a ≡ answerOf b → a ≡ b
+answer-alone a b e = sym (case-found a) ∙ ap caseOf e ∙ case-found b
+
+-- ---- in one number
+
+pub named : (a : Answer) → Named (answerOf a)
+named Tolerance = omega arith
+named (Table i) = omega arith
+named Long = omega arith
+named Many = omega arith
+named (Line i) = omega arith
+named (Shape i) = omega arith
+named (Place i) = omega arith
+named (Number i) = omega arith
+named (Total i) = omega arith
+named Version = omega arith
+named Short = omega arith
+named (Passed g t r) = tt
+
+pub packed-alone : (x y : FormatAnswer) → Near x → Near y → Named x → Named y → packedOf x ≡ packedOf y → Alike x y
+packed-alone (refused n i) (refused m j) p q a b e = (omega arith, omega arith)
+packed-alone (refused n i) (passed g t r) p q a b e = omega arith
+packed-alone (passed g t r) (refused n i) p q a b e = omega arith
+packed-alone (passed g t r) (passed h u s) p q a b e = e
