@@ -3,7 +3,6 @@
 use Prim.Native.Nat.{ℕ, suc, _+_}
 use native.Mathlib.Omega.{arith}
 use mathlib.Core.Path.{_≡_, refl, sym, ap, _∙_}
-use mathlib.Core.Bool.{cond}
 use mathlib.Core.List.{List, [], _∷_, _++_, map}
 use lib.ListN.{length, length-append, length-map}
 use Rattle.format.specs.Bytes.{Bytes, pairs}
@@ -19,7 +18,7 @@ use Rattle.format.proofs.At22.{grows-22}
 use Rattle.rules.specs.Tables.{Tables}
 use Rattle.rules.specs.Findings.{larger, worst}
 use Rattle.rules.specs.Works.{namedType, detailsFrom, transactionFindings}
-use Rattle.rules.specs.Verdicts.{joined, anyOf, rejects, raised, isStray, groupFindings, fileFindings, transactionVerdicts, groupVerdicts, fileVerdicts}
+use Rattle.rules.specs.Verdicts.{joined, raised, groupFindings, fileFindings, transactionVerdicts, groupVerdicts, fileVerdicts}
 use Rattle.rules.specs.Outcome.{content}
 
 -- ---- the leaves of a tree
@@ -85,7 +84,7 @@ module _ (tables : Tables) (t : ℕ) where
   transaction-verdicts : (named : Bytes) (x : Transaction) → length (transactionVerdicts tables t named x) ≡ suc (length (x .details))
   unfolding transactionVerdicts
   transaction-verdicts named x =
-      length-raised (cond (anyOf rejects (transactionFindings tables t named x)) 3 0) (map worst (transactionFindings tables t named x))
+      length-raised _ (map worst (transactionFindings tables t named x))
       ∙ length-map (transactionFindings tables t named x) worst
       ∙ transaction-findings named x
 
@@ -93,7 +92,7 @@ module _ (tables : Tables) (t : ℕ) where
   unfolding groupVerdicts
   group-verdicts g =
       let named = namedType (g .opening) in
-      length-raised (cond (isStray g) 4 0) (0 ∷ joined (transactionVerdicts tables t named) (g .transactions) ++ 0 ∷ [])
+      length-raised _ (0 ∷ joined (transactionVerdicts tables t named) (g .transactions) ++ 0 ∷ [])
       ∙ around 0 (joined (transactionVerdicts tables t named) (g .transactions)) 0
       ∙ ap (λ n. n + 2) (each-transaction (transactionVerdicts tables t named) (transaction-verdicts named) (g .transactions))
 

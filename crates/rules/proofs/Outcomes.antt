@@ -3,7 +3,7 @@ use Prim.Native.Nat.{ℕ, _*_, _≤_}
 use native.Mathlib.Omega.{arith}
 use mathlib.Core.Path.{_≡_, refl, sym, ap, _∙_, subst}
 use mathlib.Core.Logic.{_≢_}
-use mathlib.Core.Bool.{Bool, true, false, _&&_, false≢true}
+use mathlib.Core.Bool.{Bool, true, false, false≢true}
 use lib.ListN.{length, take, drop, length-append, length-drop}
 use lib.Seq.{take-append-seam, drop-append-seam}
 use lib.Dec.{T, leb, leb→le, le→leb}
@@ -20,7 +20,7 @@ use Rattle.format.proofs.At22.{demand3-22, nearby-22}
 use Rattle.rules.specs.Tables.{Tables, languageSize, societySize, categorySize, rightTable}
 use Rattle.rules.specs.Values.{largestTolerance}
 use Rattle.rules.specs.Verdicts.{findingBytes, fileFindings, fileVerdicts}
-use Rattle.rules.specs.Outcome.{answer, content, check, shortTolerance}
+use Rattle.rules.specs.Outcome.{enough, answer, content, check, shortTolerance}
 use Rattle.rules.specs.Claims.{InOrder, Checks}
 use Rattle.rules.proofs.Joined.{length-findings}
 use Rattle.rules.proofs.Each.{pairs-counted, verdicts-each, findings-each}
@@ -67,9 +67,6 @@ never-both n i k m r e p = let z : _≡_ {A = ℕ} 0 1 = cc in omega arith
 
 -- ---- the answer
 
-abbrev enough : ℕ → ℕ → ℕ → Bool
-enough v g r = leb r v && leb (8 * r) g
-
 module _ (tables : Tables) (t : ℕ) (f v g : Bytes) where
   abbrev given : Answer
   given = answer tables t f (length v) (length g)
@@ -79,9 +76,9 @@ module _ (tables : Tables) (t : ℕ) (f v g : Bytes) where
   unfolding answer
   in-order o =
       untested 1 0 (leb t largestTolerance) _ (le→leb t largestTolerance (o .tolerance))
-      ∙ untested 2 0 (rightTable languageSize (tables .languages)) _ (is-T _ (o .languages))
-      ∙ untested 2 1 (rightTable societySize (tables .societies)) _ (is-T _ (o .societies))
-      ∙ untested 2 2 (rightTable categorySize (tables .categories)) _ (is-T _ (o .categories))
+      ∙ untested 2 _ (rightTable languageSize (tables .languages)) _ (is-T _ (o .languages))
+      ∙ untested 2 _ (rightTable societySize (tables .societies)) _ (is-T _ (o .societies))
+      ∙ untested 2 _ (rightTable categorySize (tables .categories)) _ (is-T _ (o .categories))
       ∙ in-room (enough (length v) (length g)) (structure cwr22 f) room
     where
       room : (k m n : ℕ) → structure cwr22 f ≡ passed k m n → T (enough (length v) (length g) n)
@@ -96,9 +93,9 @@ module _ (tables : Tables) (t : ℕ) (f v g : Bytes) where
   unfolding answer
   given-near =
       near 1 _ _ (unless-within (leb t largestTolerance) 0 (omega arith))
-      (near 2 _ _ (unless-within (rightTable languageSize (tables .languages)) 0 (omega arith))
-      (near 2 _ _ (unless-within (rightTable societySize (tables .societies)) 1 (omega arith))
-      (near 2 _ _ (unless-within (rightTable categorySize (tables .categories)) 2 (omega arith))
+      (near 2 _ _ (unless-within (rightTable languageSize (tables .languages)) _ (omega arith))
+      (near 2 _ _ (unless-within (rightTable societySize (tables .societies)) _ (omega arith))
+      (near 2 _ _ (unless-within (rightTable categorySize (tables .categories)) _ (omega arith))
       (room-near (enough (length v) (length g)) (structure cwr22 f) (nearby-22 f .0)))))
 
   module _ (k m n : ℕ) (e : given ≡ passed k m n) where
@@ -107,9 +104,9 @@ module _ (tables : Tables) (t : ℕ) (f v g : Bytes) where
     unfolding answer
     passed-order =
         let (tolerance, e1) = tested 1 0 (leb t largestTolerance) _ k m n e in
-        let (languages, e2) = tested 2 0 (rightTable languageSize (tables .languages)) _ k m n e1 in
-        let (societies, e3) = tested 2 1 (rightTable societySize (tables .societies)) _ k m n e2 in
-        let (categories, e4) = tested 2 2 (rightTable categorySize (tables .categories)) _ k m n e3 in
+        let (languages, e2) = tested 2 _ (rightTable languageSize (tables .languages)) _ k m n e1 in
+        let (societies, e3) = tested 2 _ (rightTable societySize (tables .societies)) _ k m n e2 in
+        let (categories, e4) = tested 2 _ (rightTable categorySize (tables .categories)) _ k m n e3 in
         let (e5, room) = room-passed (enough (length v) (length g)) (structure cwr22 f) k m n e4 in
         let same = pairs-counted f k m n e5 in (
           record {
@@ -156,9 +153,9 @@ module _ (P : ℕ → Type 0) where
   answer-by tables t f v g p1 p =
       let p2 = p 2 (omega arith) (omega arith) in
       test-by 1 0 (leb t largestTolerance) _ p1
-      (refusal-by P 2 (unless (rightTable languageSize (tables .languages)) 0) _ p2
-      (refusal-by P 2 (unless (rightTable societySize (tables .societies)) 1) _ p2
-      (refusal-by P 2 (unless (rightTable categorySize (tables .categories)) 2) _ p2
+      (refusal-by P 2 (unless (rightTable languageSize (tables .languages)) _) _ p2
+      (refusal-by P 2 (unless (rightTable societySize (tables .societies)) _) _ p2
+      (refusal-by P 2 (unless (rightTable categorySize (tables .categories)) _) _ p2
       (room-by (enough v g) (structure cwr22 f) (p 11 (omega arith) (omega arith))
       (structure-by cwr22 P (λ n low high. p n (omega arith) (omega arith)) f)))))
 

@@ -1,6 +1,6 @@
 -- What a check answers, and what it leaves in the two buffers that it was lent: for every file, tables, tolerance and buffers.
 use Prim.Native.Nat.{ℕ, _*_}
-use mathlib.Core.Bool.{_&&_}
+use mathlib.Core.Bool.{Bool, _&&_}
 use lib.Dec.{leb}
 use lib.ListN.{length}
 use Rattle.format.specs.Bytes.{Bytes}
@@ -15,14 +15,18 @@ use Rattle.rules.specs.Tables.{Tables, languageSize, societySize, catego
 use Rattle.rules.specs.Values.{largestTolerance}
 use Rattle.rules.specs.Verdicts.{findingBytes, fileFindings, fileVerdicts}
 
--- 1 to 11 in their order, for buffers of v and g bytes: one verdict byte a record, and eight of findings
+-- buffers of v and g bytes have room for r records: one verdict byte each, and eight of findings
+abbrev pub enough : ℕ → ℕ → ℕ → Bool
+enough v g r = leb r v && leb (8 * r) g
+
+-- 1 to 11 in their order, for buffers of v and g bytes
 unfoldable pub answer : Tables → ℕ → Bytes → ℕ → ℕ → Answer
 answer tables t f v g =
     refusal 1 (unless (leb t largestTolerance) 0)
     (refusal 2 (unless (rightTable languageSize (tables .languages)) 0)
     (refusal 2 (unless (rightTable societySize (tables .societies)) 1)
     (refusal 2 (unless (rightTable categorySize (tables .categories)) 2)
-    (inRoom (λ r. leb r v && leb (8 * r) g) (structure cwr22 f)))))
+    (inRoom (enough v g) (structure cwr22 f)))))
 
 -- the groups and transactions of a file, each record whole
 abbrev pub content : Bytes → Doc
