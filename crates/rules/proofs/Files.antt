@@ -96,7 +96,7 @@ computed (checked tables t f v g o) = check tables t f v g
 said : Example → Outcome
 said (checked tables t f v g o) = o
 
--- with these tables
+-- with the listing's tables
 goes : ℕ → Bytes → Bytes → Bytes → Answer → Bytes → Bytes → Example
 goes t f v g a v' g' = checked listingTables t f v g (record { answer = a; verdicts = v'; findings = g' })
 
@@ -125,8 +125,9 @@ examples =
     ∷ stops (lent (replicate 2050 65) [] []) 6 [] [] [] 2 0
     ∷ stops (lent [] (replicate 3075 65) []) 6 [] [] [] 2 1
     ∷ stops (lent [] [] (replicate 3075 65)) 6 [] [] [] 2 2
-    -- the structure, before 11
     ∷ stops (lent (replicate 2048 65) (replicate 3072 65) (replicate 3072 65)) 6 [] [] [] 7 0
+    -- the structure, before 11: one empty record, and no room for it
+    ∷ stops listingTables 6 (13 ∷ 10 ∷ []) [] [] 6 0
     -- 11: one byte less than a verdict for each record, and than eight bytes of findings
     ∷ stops listingTables 6 fileA (replicate 5 255) (replicate 48 255) 11 0
     ∷ stops listingTables 6 fileA (replicate 6 255) (replicate 47 255) 11 0
