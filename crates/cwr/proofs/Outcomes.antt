@@ -1,0 +1,106 @@
+-- What each ending of a check comes to, and what a file that is not refused is fit for. Assumes nothing.
+use Prim.Native.Nat.{ℕ, _+_, _*_, _/_, _≤_}
+use native.Mathlib.Omega.{arith}
+use mathlib.Core.Path.{_≡_, refl, sym, ap, _∙_, subst}
+use mathlib.Core.Bool.{Bool, true, false, false≢true, _&&_}
+use mathlib.Core.List.{_++_}
+use lib.Dec.{leb}
+use lib.ListN.{length, take, drop}
+use borrow.Author.Tests.{leb-true, leb-false, le-leb, lt-leb}
+use Rattle.format.specs.Bytes.{Bytes}
+use Rattle.format.specs.Table.{unknown}
+use Rattle.format.specs.Cwr22.{cwr22}
+use Rattle.format.specs.Lines.{lines}
+use Rattle.format.specs.Structure.{Answer, refused, passed, mostBytes, mostRecords, judged, structure}
+use Rattle.format.specs.Numbering.{recordsIn}
+use Rattle.format.specs.Room.{inRoom, leftIn}
+use Rattle.format.proofs.Tests.{by-cases}
+use Rattle.format.proofs.Answers.{file-read, answer-judged}
+use Rattle.format.proofs.Demand3.{passes-limits}
+use Rattle.rules.specs.Tables.{Tables}
+use Rattle.rules.specs.Verdicts.{findingBytes, fileFindings, fileVerdicts}
+use Rattle.rules.specs.Outcome.{Outcome, enough, answer, content, check}
+use Rattle.rules.specs.Claims.{InOrder}
+use Rattle.rules.proofs.Each.{records-counted, pairs-counted}
+use Rattle.rules.proofs.Outcomes.{passed-order}
+use Rattle.answers.specs.Numbers.{isPassed}
+use Rattle.structure.specs.Cursor.{Here}
+use Rattle.structure.proofs.Cursor.{here-start}
+use Rattle.buffers.specs.Written.{splice, Written}
+use Rattle.works.specs.Walk.{restAt, Room}
+
+-- ---- 11
+
+-- eight bytes a record
+pub eighths : (r g : ℕ) → leb r (g / 8) ≡ leb (8 * r) g
+eighths r g =
+    by-cases (leb r (g / 8))
+    (λ e. rw (e, le-leb (8 * r) g (omega (arith, leb-true r (g / 8) e))) refl)
+    (λ e. rw (e, lt-leb (8 * r) g (omega (arith, leb-false r (g / 8) e))) refl)
+
+-- ---- a file that passes
+
+-- it is walked from its first byte, and the buffers have room
+pub record Fit (f : Bytes) (v g : ℕ) : Type 0 where
+  pub short : length f ≤ mostBytes
+  pub here : Here f 0 unknown (restAt f 0)
+  pub room : Room 0 (length (restAt f 0)) v g
+
+passes-fit : (f : Bytes) (v g k m n : ℕ) → structure cwr22 f ≡ passed k m n → n ≤ v → 8 * n ≤ g → Fit f v g
+unfolding structure
+passes-fit f v g k m n e a b =
+    let d = file-read (judged cwr22) f k m n e in
+    let c : length (restAt f 0) ≡ n = records-counted f k m n e in
+    record {
+      short = d .limits .0;
+      here = subst (Here f 0 unknown) (sym (ap recordsIn (d .is-lines))) (here-start f (d .rs) (d .is-lines) (answer-judged cwr22 (d .rs) k m n (d .is-judged) .in-place));
+      room = record { few = omega (arith, d .limits .1, pairs-counted f k m n e); inV = omega arith; inF = omega arith };
+    }
+
+-- ---- endings
+
+-- the front of a buffer
+pub splice-front : (xs l : Bytes) → splice 0 xs l ≡ xs ++ drop (length xs) l
+unfolding splice
+splice-front xs l = let q : 0 + length xs ≡ length xs = omega arith in rw q
+
+module _ (tables : Tables) (t : ℕ) (f v g : Bytes) (a : Answer) (is : a ≡ answer tables t f (length v) (length g)) where
+  abbrev done : Answer → Bytes → Bytes → Outcome
+  done b v' g' = record { answer = b; verdicts = v'; findings = g' }
+
+  abbrev vs : Bytes
+  vs = fileVerdicts tables t (content f)
+
+  abbrev sets : Bytes
+  sets = findingBytes (fileFindings tables t (content f))
+
+  pub refused-so : isPassed a ≡ false → done a v g ≡ check tables t f v g
+  unfolding check
+  refused-so e = rw (← is) (go a e)
+    where
+      go : (b : Answer) → isPassed b ≡ false → done b v g ≡ done b (leftIn b vs v) (leftIn b sets g)
+      go (refused n i) q = refl
+      go (passed k m n) q = absurd (false≢true (sym q))
+
+  module _ (e : isPassed a ≡ true) where
+    pub judged-so : (v' g' : Bytes) → Written 0 (fileVerdicts tables t (content f)) (fileFindings tables t (content f)) v g v' g'
+        → done a v' g' ≡ check tables t f v g
+    unfolding check
+    judged-so v' g' w = rw (← is) (go a e)
+      where
+        go : (b : Answer) → isPassed b ≡ true → done b v' g' ≡ done b (leftIn b vs v) (leftIn b sets g)
+        go (refused n i) q = absurd (false≢true q)
+        go (passed k m n) q = rw (w .verdicts, w .findings, splice-front vs v, splice-front sets g) refl
+
+    order : (b : Answer) → isPassed b ≡ true → b ≡ answer tables t f (length v) (length g) → InOrder tables t f v g × Fit f (length v) (length g)
+    order (refused n i) q k = absurd (false≢true q)
+    order (passed i j n) q k =
+        let (o, s) = passed-order tables t f v g i j n (sym k) in
+        let c = pairs-counted f i j n s in
+        (o, passes-fit f (length v) (length g) i j n s (omega (arith, o .inV)) (omega (arith, o .inF)))
+
+    pub in-order : InOrder tables t f v g
+    in-order = order a e is .0
+
+    pub fit : Fit f (length v) (length g)
+    fit = order a e is .1

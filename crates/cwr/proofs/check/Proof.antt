@@ -1,0 +1,45 @@
+-- `cwr::check` meets its contract: each ending is the outcome that is defined. Assumes nothing.
+use mathlib.Core.Path.{sym, _∙_}
+use borrow.Author.Needs.{needs}
+use borrow.Author.Tests.{not-true, not-false}
+use Rattle.buffers.proofs.Entries.{kept-v, kept-f}
+use Rattle.cwr.proofs.Outcomes.{refused-so, judged-so, in-order, fit}
+use Rattle.cwr.proofs.check.Statement.{statement}
+use Rattle.cwr.proofs.check.Tie as tie
+
+answer-requires : tie.Need-answer-requires
+answer-requires c κs = search needs
+
+passes-requires : tie.Need-passes-requires
+passes-requires c κs = search needs
+
+returns : tie.Need-returns
+returns c = refused-so _ _ _ _ _ _ (c .before .before .answer .ensures) (sym (c .before .passes .ensures) ∙ not-true _ (c .if1 .taken))
+
+judge-requires : tie.Need-judge-requires
+judge-requires c κs =
+    let passes = sym (c .before .before .before .passes .ensures) ∙ not-false _ (c .before .before .if1 .left) in
+    let o = in-order _ _ _ (c .before .before .before .before .before .before .before .before .before .before .before .args .verdicts .now) (c .before .before .before .before .before .before .before .before .before .before .before .args .findings .now) _ (c .before .before .before .before .answer .ensures) passes in
+    let h = fit _ _ _ (c .before .before .before .before .before .before .before .before .before .before .before .args .verdicts .now) (c .before .before .before .before .before .before .before .before .before .before .before .args .findings .now) _ (c .before .before .before .before .answer .ensures) passes in
+    ((h .short, h .here, h .room), (o .tolerance, o .languages, o .societies, o .categories))
+
+same-length : tie.Need-same-length
+same-length c = kept-v (c .before .before .before .before .judge .ensures)
+
+same-length-2 : tie.Need-same-length-2
+same-length-2 c = kept-f (c .before .before .before .before .judge .ensures)
+
+returns-2 : tie.Need-returns-2
+returns-2 c = judged-so _ _ _ _ _ _ (c .before .before .before .before .before .before .before .before .before .answer .ensures) (sym (c .before .before .before .before .before .before .before .before .passes .ensures) ∙ not-false _ (c .before .before .before .before .before .before .before .if1 .left)) _ _ (c .before .before .before .before .judge .ensures)
+
+pub check-spec : {M : Type 1} → statement M
+check-spec =
+    tie.close
+    (tie.spec
+    answer-requires
+    passes-requires
+    returns
+    judge-requires
+    same-length
+    same-length-2
+    returns-2)

@@ -1,0 +1,222 @@
+// The library: the calls that are open to others. Each takes whatever it is lent, and its contract states the entire outcome.
+use answers::Answer;
+use fields::Share;
+ghost use mathlib.Core.Path.{_≡_};
+ghost use mathlib.Core.Bool.{true};
+ghost use Prim.Native.Nat.{_≤_};
+ghost use lib.ListN.{length};
+ghost use Rattle.format.specs.Room.{inRoom};
+ghost use Rattle.format.specs.Structure.{mostBytes};
+ghost use Rattle.format.specs.Table.{unknown};
+ghost use Rattle.rules.specs.Tables.{languageSize, societySize, categorySize, rightTable};
+ghost use Rattle.rules.specs.Values.{largestTolerance};
+ghost use Rattle.rules.specs.Findings.{places, countOf, lowestOf};
+ghost use Rattle.rules.specs.Verdicts.{fileFindings, fileVerdicts};
+ghost use Rattle.rules.specs.Outcome.{enough, answer as Outcome·answer, content, check as Outcome·check, shortTolerance};
+ghost use Rattle.answers.specs.Numbers.{answerOf};
+ghost use Rattle.structure.specs.Cursor.{Here};
+ghost use Rattle.buffers.specs.Written.{Written};
+ghost use Rattle.numbering.specs.Outcome.{numberAnswer, numberBuffer};
+ghost use Rattle.works.specs.Walk.{restAt, Room};
+ghost use Rattle.files.specs.Levels.{tablesOf};
+ghost use Rattle.cwr.specs.Outcome.{outcome, AllIndexed};
+
+// How many bytes an entry of each table has.
+const LANGUAGE: usize = 2;
+
+const SOCIETY: usize = 3;
+
+const CATEGORY: usize = 3;
+
+// ---- refusals
+
+// 11, behind all others.
+fn in_room(answer: Answer, verdicts: usize, findings: usize) -> Answer
+    ensures { λ r. ⌜ answerOf r ≡ inRoom (enough verdicts findings) (answerOf answer) ⌝ }
+{
+    let Answer::Passed(_, _, records) = answer else {
+        return answer;
+    };
+    if (records <= verdicts as u64) & (records <= findings as u64 / 8) {
+        return answer;
+    }
+    Answer::Short
+}
+
+// 1 to 11, for buffers of so many bytes.
+fn answer(
+    file: &[u8],
+    languages: &[u8],
+    societies: &[u8],
+    categories: &[u8],
+    tolerance: u64,
+    verdicts: usize,
+    findings: usize,
+) -> Answer
+    ensures { λ r. ⌜ answerOf r ≡ Outcome·answer (tablesOf (now (languages .entry)) (now (societies .entry)) (now (categories .entry))) tolerance (now (file .entry)) verdicts findings ⌝ }
+{
+    if !Share::is_tolerance(tolerance) {
+        return Answer::Tolerance;
+    }
+    if !lookup::right(languages, LANGUAGE) {
+        return Answer::Table(0);
+    }
+    if !lookup::right(societies, SOCIETY) {
+        return Answer::Table(1);
+    }
+    if !lookup::right(categories, CATEGORY) {
+        return Answer::Table(2);
+    }
+    in_room(structure::check(file), verdicts, findings)
+}
+
+// ---- the records of a file that passed
+
+// The indexes of the three tables, side by side.
+fn index_all(languages: &[u8], societies: &[u8], categories: &[u8], slots: &mut [u16])
+    requires { ⌜ (rightTable languageSize (now languages) ≡ true) × (rightTable societySize (now societies) ≡ true) × (rightTable categorySize (now categories) ≡ true) × (length (now slots) ≡ 12288) ⌝ }
+    ensures { λ _. ⌜ AllIndexed (now (languages .entry)) (now (societies .entry)) (now (categories .entry)) (now (slots .exit)) ⌝ }
+{
+    lookup::index(languages, LANGUAGE, &mut slots[0..4096]);
+    lookup::index(societies, SOCIETY, &mut slots[4096..8192]);
+    lookup::index(categories, CATEGORY, &mut slots[8192..12288]);
+}
+
+// Judges with those indexes.
+fn judge_indexed(
+    file: &[u8],
+    languages: &[u8],
+    societies: &[u8],
+    categories: &[u8],
+    tolerance: u64,
+    slots: &[u16],
+    verdicts: &mut [u8],
+    findings: &mut [u8],
+)
+    requires { ⌜ (length (now file) ≤ mostBytes) × Here (now file) 0 unknown (restAt (now file) 0) × Room 0 (length (restAt (now file) 0)) (length (now verdicts)) (length (now findings)) ⌝ }
+    requires { ⌜ (tolerance ≤ largestTolerance) × AllIndexed (now languages) (now societies) (now categories) (now slots) ⌝ }
+    ensures { λ _. ⌜ Written 0 (fileVerdicts (tablesOf (now (languages .entry)) (now (societies .entry)) (now (categories .entry))) tolerance (content (now (file .entry)))) (fileFindings (tablesOf (now (languages .entry)) (now (societies .entry)) (now (categories .entry))) tolerance (content (now (file .entry)))) (now (verdicts .entry)) (now (findings .entry)) (now (verdicts .exit)) (now (findings .exit)) ⌝ }
+{
+    files::judge_file(
+        file,
+        tolerance,
+        languages,
+        &slots[0..4096],
+        societies,
+        &slots[4096..8192],
+        categories,
+        &slots[8192..12288],
+        verdicts,
+        findings,
+    );
+}
+
+// The tables are indexed once, in slots on the stack; the function that holds these takes no part of them.
+fn judge(
+    file: &[u8],
+    languages: &[u8],
+    societies: &[u8],
+    categories: &[u8],
+    tolerance: u64,
+    verdicts: &mut [u8],
+    findings: &mut [u8],
+)
+    requires { ⌜ (length (now file) ≤ mostBytes) × Here (now file) 0 unknown (restAt (now file) 0) × Room 0 (length (restAt (now file) 0)) (length (now verdicts)) (length (now findings)) ⌝ }
+    requires { ⌜ (tolerance ≤ largestTolerance) × (rightTable languageSize (now languages) ≡ true) × (rightTable societySize (now societies) ≡ true) × (rightTable categorySize (now categories) ≡ true) ⌝ }
+    ensures { λ _. ⌜ Written 0 (fileVerdicts (tablesOf (now (languages .entry)) (now (societies .entry)) (now (categories .entry))) tolerance (content (now (file .entry)))) (fileFindings (tablesOf (now (languages .entry)) (now (societies .entry)) (now (categories .entry))) tolerance (content (now (file .entry)))) (now (verdicts .entry)) (now (findings .entry)) (now (verdicts .exit)) (now (findings .exit)) ⌝ }
+{
+    let mut slots = [0u16; 12288];
+    index_all(languages, societies, categories, &mut slots);
+    judge_indexed(
+        file,
+        languages,
+        societies,
+        categories,
+        tolerance,
+        &slots,
+        verdicts,
+        findings,
+    );
+}
+
+// ---- the calls
+
+// Checks a file. Refused, it has written nothing; passed, each record has its verdict byte and its eight bytes of findings.
+pub fn check(
+    file: &[u8],
+    languages: &[u8],
+    societies: &[u8],
+    categories: &[u8],
+    tolerance: u64,
+    verdicts: &mut [u8],
+    findings: &mut [u8],
+) -> Answer
+    ensures { λ r. ⌜ outcome r (now (verdicts .exit)) (now (findings .exit)) ≡ Outcome·check (tablesOf (now (languages .entry)) (now (societies .entry)) (now (categories .entry))) tolerance (now (file .entry)) (now (verdicts .entry)) (now (findings .entry)) ⌝ }
+{
+    let r = answer(
+        file,
+        languages,
+        societies,
+        categories,
+        tolerance,
+        verdicts.len(),
+        findings.len(),
+    );
+    if !r.passes() {
+        return r;
+    }
+    judge(
+        file,
+        languages,
+        societies,
+        categories,
+        tolerance,
+        verdicts,
+        findings,
+    );
+    r
+}
+
+// The short form, with the largest tolerance.
+pub fn check_short(
+    file: &[u8],
+    languages: &[u8],
+    societies: &[u8],
+    categories: &[u8],
+    verdicts: &mut [u8],
+    findings: &mut [u8],
+) -> Answer
+    ensures { λ r. ⌜ outcome r (now (verdicts .exit)) (now (findings .exit)) ≡ Outcome·check (tablesOf (now (languages .entry)) (now (societies .entry)) (now (categories .entry))) shortTolerance (now (file .entry)) (now (verdicts .entry)) (now (findings .entry)) ⌝ }
+{
+    check(
+        file,
+        languages,
+        societies,
+        categories,
+        Share::SLACK,
+        verdicts,
+        findings,
+    )
+}
+
+// Numbers a file into out.
+pub fn number(file: &[u8], out: &mut [u8]) -> Answer
+    ensures { λ r. ⌜ answerOf r ≡ numberAnswer (now (file .entry)) (length (now (out .entry))) ⌝ }
+    ensures { λ _. ⌜ now (out .exit) ≡ numberBuffer (now (file .entry)) (now (out .entry)) ⌝ }
+{
+    numbering::number(file, out)
+}
+
+// How many findings are in a record's set.
+pub fn count(set: u64) -> u32
+    ensures { λ r. ⌜ r ≡ countOf (places 64 set) ⌝ }
+{
+    sets::count(set)
+}
+
+// The lowest of them; 64 where there is none.
+pub fn lowest(set: u64) -> u32
+    ensures { λ r. ⌜ r ≡ lowestOf (places 64 set) ⌝ }
+{
+    sets::lowest(set)
+}
