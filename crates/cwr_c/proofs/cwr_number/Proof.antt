@@ -1,0 +1,21 @@
+-- `cwr_c::cwr_number` meets its contract. Assumes nothing.
+use mathlib.Core.Path.{ap, _∙_}
+use Rattle.answers.specs.Numbers.{packedOf}
+use borrow.Author.Needs.{needs}
+use Rattle.cwr_c.proofs.cwr_number.Statement.{statement}
+use Rattle.cwr_c.proofs.cwr_number.Tie as tie
+
+number-requires : tie.Need-number-requires
+number-requires c κs = search needs
+
+packed-requires : tie.Need-packed-requires
+packed-requires c κs = search needs
+
+same-length : tie.Need-same-length
+same-length c = search needs
+
+returns : tie.Need-returns
+returns c = (c .packed .ensures ∙ ap packedOf (c .before .before .before .number .ensures .0), c .before .before .before .number .ensures .1)
+
+pub cwr-number-spec : {M : Type 1} → statement M
+cwr-number-spec = tie.close (tie.spec number-requires packed-requires same-length returns)
