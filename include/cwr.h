@@ -1,0 +1,130 @@
+/* The library's calls from C: a CWR 2.2 file is checked, or numbered.
+ *
+ * What is lent to a call
+ * - Every slice is a pointer and a length in bytes. No pointer may be null, not
+ *   even with length 0. Slices that are written must not overlap any other.
+ * - No call reads or writes outside the slices it was lent, keeps a pointer,
+ *   allocates, or has any state of its own: equal inputs give equal outcomes.
+ * - A record is the text before a CR LF pair; records count from 0.
+ *
+ * What is answered by the first three calls
+ * - Passed: the number of records, which is below 2^32.
+ * - Refused: the refusal's number times 2^32, plus its place. Then not a byte is
+ *   written.
+ *
+ * The refusals, in the order in which they are looked for, each over the whole
+ * file before the next; the place is a record unless another is said:
+ *    1  the tolerance is above 6                                    place 0
+ *    2  a table's length does not fit its entries, or it has over
+ *       1,024 of them       place: 0 languages, 1 societies, 2 categories
+ *    3  the file is over 16,777,216 bytes                           place 0
+ *    4  a byte below 32 outside a CR LF pair, or text after the last
+ *       pair                             place: lines before the faulty one
+ *    5  over 131,072 records                                  place 131,072
+ *    6  a type that is unknown, or a length that is not its type's
+ *    7  a record out of place; the place is the record count where the file
+ *       ends too early
+ *    8  a wrong number in a record's prefix, or a wrong GRH group number
+ *    9  a wrong number in a GRT or the TRL
+ *   10  the HDR's version is not 2.2, or its revision not 000 to 002  place 0
+ *   11  a buffer that is to be written is too short                 place 0
+ */
+#ifndef CWR_H
+#define CWR_H
+
+#include <stddef.h>
+#include <stdint.h>
+
+#ifdef __cplusplus
+extern "C" {
+#endif
+
+#define CWR_MOST_BYTES 16777216u       /* of a file */
+#define CWR_MOST_RECORDS 131072u       /* of a file */
+#define CWR_MOST_ENTRIES 1024u         /* of a table */
+#define CWR_LARGEST_TOLERANCE 6u       /* hundredths of a percent */
+#define CWR_LANGUAGE_BYTES 2u          /* of an entry */
+#define CWR_SOCIETY_BYTES 3u           /* of an entry */
+#define CWR_CATEGORY_BYTES 3u          /* of an entry */
+#define CWR_FINDING_BYTES 8u           /* of a record's set of findings */
+#define CWR_NONE 64u                   /* the lowest finding of an empty set */
+
+/* A record's verdict: what a society would do. */
+enum cwr_verdict {
+    CWR_ACCEPTED = 0,
+    CWR_FIELD_DEFAULTED = 1,
+    CWR_RECORD_REJECTED = 2,
+    CWR_TRANSACTION_REJECTED = 3,
+    CWR_GROUP_REJECTED = 4
+};
+
+/* Checks a file with tolerance 6, so never answers refusal 1.
+ *
+ * The three tables are codes one after the other, in any order, repeats and
+ * emptiness allowed: languages of 2 bytes, societies of 3, distribution
+ * categories of 3.
+ *
+ * Refused: nothing is written. Passed, with n records: the first n bytes of
+ * `verdicts` are the records' verdicts, 0 to 4, and the first 8 n bytes of
+ * `findings` their sets of findings, each a 64-bit number, least significant
+ * byte first, in which bit k says that finding k holds. Bytes beyond stay as
+ * they were. `verdicts` needs a byte a record and `findings` eight, or the file
+ * is refused by 11; CWR_MOST_RECORDS entries are always enough. */
+uint64_t cwr_check(const uint8_t *file, size_t file_length,
+                   const uint8_t *languages, size_t languages_length,
+                   const uint8_t *societies, size_t societies_length,
+                   const uint8_t *categories, size_t categories_length,
+                   uint8_t *verdicts, size_t verdicts_length,
+                   uint8_t *findings, size_t findings_length);
+
+/* The same with a tolerance of choice, in hundredths of a percent; one above 6
+ * is refused by 1. */
+uint64_t cwr_check_within(uint64_t tolerance,
+                          const uint8_t *file, size_t file_length,
+                          const uint8_t *languages, size_t languages_length,
+                          const uint8_t *societies, size_t societies_length,
+                          const uint8_t *categories, size_t categories_length,
+                          uint8_t *verdicts, size_t verdicts_length,
+                          uint8_t *findings, size_t findings_length);
+
+/* Writes the file with its numbers put in afresh: those of prefixes, of groups
+ * and of the trailers. What stood in these positions is not looked at, so it
+ * refuses by 3, 4, 5, 6, 7, 10 and 11 alone; 11 where `out` is shorter than the
+ * file.
+ *
+ * Refused: nothing is written. Passed: exactly `file_length` bytes of `out` are
+ * written, equal to the file outside the number positions; bytes beyond stay as
+ * they were. A file that passes the check comes out as it is. */
+uint64_t cwr_number(const uint8_t *file, size_t file_length,
+                    uint8_t *out, size_t out_length);
+
+/* How many findings a set has, 0 to 64. */
+uint32_t cwr_findings_count(uint64_t set);
+
+/* The number of a set's lowest finding; CWR_NONE where it has none. */
+uint32_t cwr_findings_lowest(uint64_t set);
+
+/* An answer taken apart: the number of the refusal, 0 where passed; */
+static inline uint32_t cwr_refusal(uint64_t answer) {
+    return (uint32_t)(answer >> 32);
+}
+
+/* and the place of a refusal, or the number of records where passed. */
+static inline uint32_t cwr_place(uint64_t answer) {
+    return (uint32_t)(answer & 0xffffffffu);
+}
+
+/* The set of findings of one record, as the check wrote it. */
+static inline uint64_t cwr_findings_of(const uint8_t *findings, size_t record) {
+    const uint8_t *bytes = findings + record * CWR_FINDING_BYTES;
+    uint64_t set = 0;
+    for (unsigned at = CWR_FINDING_BYTES; at > 0; at--)
+        set = set << 8 | bytes[at - 1];
+    return set;
+}
+
+#ifdef __cplusplus
+}
+#endif
+
+#endif
