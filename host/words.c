@@ -1,0 +1,154 @@
+#include "words.h"
+
+#define NO_FIELD {NULL, 0, 0}
+#define TYPE_FIELD {"record type", 1, 3}
+#define CATEGORY_FIELD {"distribution category", 127, 3}
+#define DURATION_FIELD {"duration", 130, 6}
+#define VERSION_FIELD {"version type", 143, 3}
+#define SEQUENCE_FIELD {"publisher sequence number", 20, 2}
+#define PUBLISHER_FIELD {"publisher name", 31, 45}
+#define UNKNOWN_FIELD {"unknown indicator", 76, 1}
+#define PUBLISHER_TYPE_FIELD {"publisher type", 77, 2}
+#define PUBLISHER_SHARES {"PR share", 116, 5}, {"MR share", 124, 5}, {"SR share", 132, 5}
+#define WRITER_SHARES {"PR share", 130, 5}, {"MR share", 138, 5}, {"SR share", 146, 5}
+#define DESIGNATION_FIELD {"designation", 105, 2}
+
+static const struct finding findings[] = {
+    [0] = {"GR", "T22", NULL,
+     "The header's type is not the one that its group was opened for (GRH, start 4).", {TYPE_FIELD}},
+    [1] = {"TR", "T4", NULL,
+     "The publishers own too much: together at most half of PR, and all of MR and of SR (SPU and OPU).", {NO_FIELD}},
+    [2] = {"TR", "T9", NULL,
+     "The writers' shares do not fit: of PR they own nothing or at least half, and of no right more than all (SWR and OWR).", {NO_FIELD}},
+    [3] = {"TR", "T11", NULL,
+     "Publishers and writers together own neither all nor nothing of some right.", {NO_FIELD}},
+    [4] = {"TR", "T12", NULL,
+     "The work has no writer: no SWR and no OWR.", {NO_FIELD}},
+    [5] = {"TR", "T15", NULL,
+     "No writer has the designation CA, A or C (SWR and OWR, start 105).", {NO_FIELD}},
+    [6] = {"TR", "T10", NULL,
+     "The work is a modified version, but no writer is AR, AD, SR, SA or TR (SWR and OWR, start 105).", {VERSION_FIELD}},
+    [7] = {"TR", "T23", NULL,
+     "The work is an original version, but a writer is AR, AD, SR, SA or TR (SWR and OWR, start 105).", {VERSION_FIELD}},
+    [8] = {"TR", "T43", NULL,
+     "The records of the work do not follow each other in the order that the format asks for.", {NO_FIELD}},
+    [9] = {"TR", "T53", NULL,
+     "A work of category SER must name its instruments: there is neither INS nor IND.", {CATEGORY_FIELD}},
+    [10] = {"TR", "T45", NULL,
+     "The work is music without words, but a writer is CA, A, SA or TR (SWR and OWR, start 105).", {{"text music relationship", 137, 3}}},
+    [11] = {"TR", "T17", NULL,
+     "Under one sequence number there is more than one original publisher (SPU and OPU, type E).", {NO_FIELD}},
+    [12] = {"TR", "T25", NULL,
+     "A chain that begins with an SPU leaves its original publisher and acquirer (SPU, types E and AQ) without any share.", {NO_FIELD}},
+    [13] = {"TR", "T16", NULL,
+     "A publisher that the submitter does not control (OPU) stands in a chain that begins with one it controls (SPU).", {NO_FIELD}},
+    [14] = {"TR", "T26", NULL,
+     "A chain has an acquirer (SPU, type AQ), but an original publisher (type E) before it has kept a share.", {NO_FIELD}},
+    [15] = {"TR", NULL, NULL,
+     "There is more than one EWT or more than one VER; a work has at most one of each.", {NO_FIELD}},
+    [16] = {"TR", "N1", NULL,
+     "The title is blank.", {{"title", 20, 60}}},
+    [17] = {"TR", "N2", NULL,
+     "The language code is not in the table of languages.", {{"language", 80, 2}}},
+    [18] = {"TR", "N3", NULL,
+     "The submitter's work number is blank.", {{"work number", 82, 14}}},
+    [19] = {"FR", "N4", "spaces",
+     "The ISWC is not a right one: a T and ten digits, of which the last must fit the others.", {{"ISWC", 96, 11}}},
+    [20] = {"FR", "N5", "zeros",
+     "The copyright date is no day of the calendar; eight zeros mean that there is none.", {{"copyright date", 107, 8}}},
+    [21] = {"TR", "N6", NULL,
+     "The distribution category is blank or not in the table of categories.", {CATEGORY_FIELD}},
+    [22] = {"TR", "N7", NULL,
+     "A work of category SER needs a duration above zero, in hours, minutes and seconds.", {CATEGORY_FIELD, DURATION_FIELD}},
+    [23] = {"FR", NULL, "zeros",
+     "The duration is not six digits for hours, minutes and seconds.", {DURATION_FIELD}},
+    [24] = {"RR", "T8", NULL,
+     "A record of this type has no place in the registration of a work.", {TYPE_FIELD}},
+    [25] = {"TR", "P1", NULL,
+     "The sequence number is out of step: the first publisher has 01, each next the same as the one before or one more.", {SEQUENCE_FIELD}},
+    [26] = {"TR", "P2", NULL,
+     "The publisher's party number is blank.", {{"party number", 22, 9}}},
+    [27] = {"TR", "P4", NULL,
+     "The publisher's name is blank; only an OPU may leave it out, with Y for unknown.", {PUBLISHER_FIELD, UNKNOWN_FIELD}},
+    [28] = {"TR", "P5, P6", NULL,
+     "The publisher type is none of E, AQ, AM, PA, SE and ES.", {PUBLISHER_TYPE_FIELD}},
+    [29] = {"TR", "P7", NULL,
+     "A publisher that the submitter controls cannot be unknown: the indicator must be blank.", {UNKNOWN_FIELD}},
+    [30] = {"TR", NULL, NULL,
+     "A share is not five digits or is too large: at most 05000 for PR, 10000 for MR and for SR.", {PUBLISHER_SHARES}},
+    [31] = {"TR", "P19", NULL,
+     "A share may stand only with an original publisher (E) or an acquirer (AQ); the type starts at 77.", {PUBLISHER_SHARES}},
+    [32] = {"TR", "P32", NULL,
+     "An acquirer (AQ) must come after an original publisher (SPU, type E) with the same sequence number.", {SEQUENCE_FIELD, PUBLISHER_TYPE_FIELD}},
+    [33] = {"FR", "P8", "N",
+     "The indicator for an unknown publisher is neither Y nor N nor blank.", {UNKNOWN_FIELD}},
+    [34] = {"FR", "P9", "N as the indicator",
+     "The publisher is marked as unknown and has a name all the same.", {UNKNOWN_FIELD, PUBLISHER_FIELD}},
+    [35] = {"FR", "P28", "E",
+     "The publisher type is none of E, AQ, AM, PA, SE and ES.", {PUBLISHER_TYPE_FIELD}},
+    [36] = {"FR", NULL, "spaces",
+     "A society code is not in the table of societies.", {{"PR society", 113, 3}, {"MR society", 121, 3}, {"SR society", 129, 3}}},
+    [37] = {"FR", "P23", "zeros",
+     "The tax number is not nine digits.", {{"tax number", 79, 9}}},
+    [38] = {"TR", NULL, NULL,
+     "The writer's last name is blank.", {{"last name", 29, 45}}},
+    [39] = {"TR", NULL, NULL,
+     "The writer's designation is none of CA, A, C, AR, AD, SR, SA, TR and PA.", {DESIGNATION_FIELD}},
+    [40] = {"FR", NULL, "spaces",
+     "The writer's designation is none of CA, A, C, AR, AD, SR, SA, TR and PA.", {DESIGNATION_FIELD}},
+    [41] = {"TR", NULL, NULL,
+     "A share is not five digits or is above 10000.", {WRITER_SHARES}},
+    [42] = {"TR", NULL, NULL,
+     "The writer's party number is blank.", {{"party number", 20, 9}}},
+    [43] = {"RR", NULL, NULL,
+     "The title of the other work (EWT, VER) or the performer's last name (PER) is blank.", {{"title or last name", 20, 45}}},
+    [44] = {"RR", NULL, NULL,
+     "The recording has no release date, no duration and nothing from position 99 on.", {{"release date", 20, 8}, {"duration", 88, 6}}},
+    [45] = {"FR", NULL, "zeros",
+     "The release date is no day of the calendar; eight zeros mean that there is none.", {{"release date", 20, 8}}},
+    [46] = {"FR", NULL, "zeros",
+     "The duration is not six digits for hours, minutes and seconds.", {{"duration", 88, 6}}},
+};
+
+static const struct refusal refusals[] = {
+    [1] = {PLACE_NOTHING, "The tolerance is above 6 hundredths of a percent, the largest that is allowed."},
+    [2] = {PLACE_TABLE, "A table has more than 1,024 codes, or does not consist of whole codes."},
+    [3] = {PLACE_NOTHING, "The file is longer than 16,777,216 bytes."},
+    [4] = {PLACE_LINE, "A line holds a character that belongs in no record (below a space), or does not end with CR LF."},
+    [5] = {PLACE_LINE, "The file has more than 131,072 records. This is the first that is too many:"},
+    [6] = {PLACE_LINE, "The record is of no known type, or its length is not the one of its type."},
+    [7] = {PLACE_LINE, "The record may not stand in this place, or the file ends too early."},
+    [8] = {PLACE_LINE, "The transaction or record number (start 4 and 12), or in a GRH the group number (start 7), is wrong. --number puts the numbers in."},
+    [9] = {PLACE_LINE, "The group number (GRT, start 4) or a count in the trailer is wrong. --number puts the numbers in."},
+    [10] = {PLACE_LINE, "The HDR does not say version 2.2 (start 102) with a revision from 000 to 002 (start 105)."},
+    [11] = {PLACE_NOTHING, "This program lent the library too little room; it is a fault of the program."},
+};
+
+_Static_assert(sizeof findings / sizeof findings[0] == 47, "findings 0 to 46");
+_Static_assert(sizeof refusals / sizeof refusals[0] == 12, "refusals 1 to 11");
+
+const struct finding *finding_words(uint32_t number) {
+    return number < sizeof findings / sizeof findings[0] ? &findings[number] : NULL;
+}
+
+const struct refusal *refusal_words(uint32_t number) {
+    return number > 0 && number < sizeof refusals / sizeof refusals[0] ? &refusals[number] : NULL;
+}
+
+static const struct {
+    const char *record, *transaction;
+} verdicts[] = {
+    {"accepted", "accepted"},
+    {"field defaulted", "accepted with defaults"},
+    {"record rejected", "accepted without single records"},
+    {"transaction rejected", "rejected"},
+    {"group rejected", "rejected with its group"},
+};
+
+const char *verdict_of_record(size_t verdict) {
+    return verdicts[verdict].record;
+}
+
+const char *verdict_of_transaction(size_t verdict) {
+    return verdicts[verdict].transaction;
+}
