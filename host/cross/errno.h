@@ -1,0 +1,8 @@
+#ifndef CROSS_ERRNO_H
+#define CROSS_ERRNO_H
+int *__errno_location(void);
+#define errno (*__errno_location())
+#define ENOENT 2
+#define EINTR 4
+#define EEXIST 17
+#endif

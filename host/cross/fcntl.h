@@ -1,0 +1,8 @@
+#ifndef CROSS_FCNTL_H
+#define CROSS_FCNTL_H
+#define O_RDONLY 0
+#define O_WRONLY 1
+#define O_CREAT 0100
+#define O_EXCL 0200
+int open(const char *path, int flags, ...);
+#endif

@@ -1,0 +1,8 @@
+#ifndef CROSS_STDLIB_H
+#define CROSS_STDLIB_H
+#include <stddef.h>
+void *malloc(size_t length);
+void *calloc(size_t count, size_t length);
+void *realloc(void *bytes, size_t length);
+void free(void *bytes);
+#endif

@@ -1,0 +1,10 @@
+#ifndef CROSS_STRING_H
+#define CROSS_STRING_H
+#include <stddef.h>
+void *memchr(const void *bytes, int byte, size_t length);
+int memcmp(const void *a, const void *b, size_t length);
+void *memmove(void *to, const void *from, size_t length);
+int strcmp(const char *a, const char *b);
+size_t strlen(const char *words);
+char *strerror(int error);
+#endif

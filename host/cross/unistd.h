@@ -1,0 +1,12 @@
+#ifndef CROSS_UNISTD_H
+#define CROSS_UNISTD_H
+#include <stddef.h>
+typedef long ssize_t;
+ssize_t read(int from, void *bytes, size_t length);
+ssize_t write(int to, const void *bytes, size_t length);
+int close(int file);
+int fsync(int file);
+int getpid(void);
+int link(const char *from, const char *to);
+int unlink(const char *path);
+#endif
