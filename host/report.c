@@ -1,6 +1,7 @@
 #include "report.h"
 
 #include "cwr.h"
+#include "totals.h"
 #include "words.h"
 
 enum { SHOWN_TITLE = 60, SHORT_FIELD = 14 };
@@ -49,7 +50,7 @@ static void say_fields(struct out *out, struct bytes record, const struct findin
         say(out, "\n");
 }
 
-static void say_finding(struct out *out, struct bytes record, uint32_t number) {
+static void say_finding(struct out *out, const struct check *check, size_t record, uint32_t number) {
     const struct finding *words = finding_words(number);
     if (!words) {
         say(out, "    finding %u: this program has no words for it\n", number);
@@ -58,25 +59,26 @@ static void say_finding(struct out *out, struct bytes record, uint32_t number) {
     say(out, "    finding %u (%s%s%s): %s", number, words->level, words->edit ? ", " : "", words->edit ? words->edit : "",
         words->sentence);
     if (words->put)
-        say(out, " A society puts %s.", words->put);
+        say(out, " The society's default: %s.", words->put);
     say(out, "\n");
-    say_fields(out, record, words);
+    say_fields(out, check->records[record], words);
+    if (words->totals)
+        say_totals(out, check, record);
 }
 
 /* ---- one record, one transaction */
 
 static void say_record(const struct walk *walk, size_t record) {
     const struct check *check = walk->check;
-    struct bytes text = check->records[record];
     uint64_t left = check_findings(check, record);
     if (left == 0)
         return;
     say(walk->out, "  record %zu (line %zu), ", record, record + 1);
-    say_escaped(walk->out, text_field(text, 1, 3), 3);
+    say_escaped(walk->out, text_field(check->records[record], 1, 3), 3);
     say(walk->out, ": %s\n", verdict_of_record(check->verdicts[record]));
     /* The lowest first, each taken away once it was said. */
     for (; left != 0; left &= left - 1)
-        say_finding(walk->out, text, cwr_findings_lowest(left));
+        say_finding(walk->out, check, record, cwr_findings_lowest(left));
 }
 
 static void say_header(const struct walk *walk, size_t record, size_t verdict) {
@@ -88,18 +90,11 @@ static void say_header(const struct walk *walk, size_t record, size_t verdict) {
     say_quoted(walk->out, work, SHOWN_TITLE);
     say(walk->out, ", title ");
     say_quoted(walk->out, title, SHOWN_TITLE);
-    say(walk->out, "\n  %s\n", verdict_of_transaction(verdict));
-}
-
-static size_t end_of_transaction(const struct check *check, size_t header) {
-    size_t end = header + 1;
-    while (end < check->count && !is_header(check->records[end]) && !text_is(check->records[end], "GRT"))
-        end++;
-    return end;
+    say(walk->out, "\n  verdict: %s\n", verdict_of_transaction(verdict));
 }
 
 static void walk_transaction(struct walk *walk, size_t header) {
-    size_t end = end_of_transaction(walk->check, header), largest = 0;
+    size_t end = transaction_end(walk->check, header), largest = 0;
     bool found = false;
     for (size_t i = header; i < end; i++) {
         size_t verdict = walk->check->verdicts[i];

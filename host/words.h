@@ -2,6 +2,7 @@
 #ifndef WORDS_H
 #define WORDS_H
 
+#include <stdbool.h>
 #include <stddef.h>
 #include <stdint.h>
 
@@ -19,6 +20,7 @@ struct finding {
     const char *put;   /* what a society puts there; null where it puts nothing */
     const char *sentence;
     struct field fields[MOST_FIELDS];
+    bool totals; /* whether it speaks of the transaction's shares added up */
 };
 
 /* Null for a number that is none. */
