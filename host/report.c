@@ -130,7 +130,7 @@ static void say_summary(struct out *out, const struct summary *summary, size_t t
         say(out, "%zu %-20s %9zu\n", verdict, verdict_of_record(verdict), summary->records[verdict]);
     say_count(out, transactions, "transaction", ": ");
     for (size_t verdict = 0; verdict < VERDICTS; verdict++)
-        say(out, "%s%zu %s", verdict == 0 ? "" : ", ", of[verdict], verdict_of_transaction(verdict));
+        say(out, "%s%zu %s", verdict == 0 ? "" : "; ", of[verdict], verdict_of_transaction(verdict));
     say(out, "\n");
 }
 

@@ -192,7 +192,7 @@ static const struct {
 } verdicts[] = {
     {"accepted", "accepted"},
     {"field defaulted", "accepted with defaults"},
-    {"record rejected", "accepted, single records left out"},
+    {"record rejected", "accepted with records left out"},
     {"transaction rejected", "rejected"},
     {"group rejected", "rejected with the group"},
 };

@@ -1,0 +1,96 @@
+/* A double of the library, for host/test alone: it checks nothing and answers what it is told to, so that every path of the host can be
+ * taken, those too that no file can bring about.
+ *
+ *   CWR_DOUBLE_REFUSES "7 3"     every call refuses by 7 at place 3
+ *   CWR_DOUBLE_FINDS "1ff"       each record gets this set of findings, in hexadecimal
+ *   CWR_DOUBLE_VERDICT "3"       and this verdict
+ *   CWR_DOUBLE_MISCOUNTS "1"     the answer is this many records too large
+ *   CWR_DOUBLE_SPOILS PATH       a byte is added to this file once the host has begun to read
+ *
+ * Otherwise a file passes with as many records as it has CR LF pairs, all accepted, and numbering copies it. */
+#include "cwr.h"
+
+#include <fcntl.h>
+#include <stdbool.h>
+#include <stdlib.h>
+#include <string.h>
+#include <sys/uio.h>
+#include <unistd.h>
+
+static uint64_t told(const char *name, int base) {
+    const char *words = getenv(name);
+    return words ? strtoull(words, NULL, base) : 0;
+}
+
+static uint64_t pairs(const uint8_t *file, size_t length) {
+    uint64_t count = 0;
+    for (size_t i = 1; i < length; i++)
+        count += file[i - 1] == '\r' && file[i] == '\n';
+    return count;
+}
+
+static uint64_t answer(const uint8_t *file, size_t length) {
+    const char *refuses = getenv("CWR_DOUBLE_REFUSES");
+    if (refuses) {
+        char *rest;
+        uint64_t number = strtoull(refuses, &rest, 10);
+        return number << 32 | strtoull(rest, NULL, 10);
+    }
+    return pairs(file, length) + told("CWR_DOUBLE_MISCOUNTS", 10);
+}
+
+uint64_t cwr_check_within(uint64_t tolerance, const uint8_t *file, size_t file_length, const uint8_t *languages, size_t languages_length,
+                          const uint8_t *societies, size_t societies_length, const uint8_t *categories, size_t categories_length,
+                          uint8_t *verdicts, size_t verdicts_length, uint8_t *findings, size_t findings_length) {
+    uint64_t answered = answer(file, file_length), set = told("CWR_DOUBLE_FINDS", 16);
+    (void)tolerance, (void)languages, (void)languages_length, (void)societies, (void)societies_length, (void)categories;
+    (void)categories_length;
+    for (size_t i = 0; answered >> 32 == 0 && i < answered && i < verdicts_length && 8 * i + 8 <= findings_length; i++) {
+        verdicts[i] = (uint8_t)told("CWR_DOUBLE_VERDICT", 10);
+        for (size_t at = 0; at < 8; at++)
+            findings[8 * i + at] = (uint8_t)(set >> (8 * at));
+    }
+    return answered;
+}
+
+uint64_t cwr_check(const uint8_t *file, size_t file_length, const uint8_t *languages, size_t languages_length, const uint8_t *societies,
+                   size_t societies_length, const uint8_t *categories, size_t categories_length, uint8_t *verdicts,
+                   size_t verdicts_length, uint8_t *findings, size_t findings_length) {
+    return cwr_check_within(CWR_LARGEST_TOLERANCE, file, file_length, languages, languages_length, societies, societies_length, categories,
+                            categories_length, verdicts, verdicts_length, findings, findings_length);
+}
+
+uint64_t cwr_number(const uint8_t *file, size_t file_length, uint8_t *out, size_t out_length) {
+    uint64_t answered = answer(file, file_length);
+    if (answered >> 32 == 0 && file_length <= out_length)
+        memmove(out, file, file_length);
+    return answered;
+}
+
+uint32_t cwr_findings_count(uint64_t set) {
+    uint32_t count = 0;
+    for (; set != 0; set &= set - 1)
+        count++;
+    return count;
+}
+
+uint32_t cwr_findings_lowest(uint64_t set) {
+    uint32_t lowest = 0;
+    while (lowest < CWR_NONE && (set >> lowest & 1) == 0)
+        lowest++;
+    return lowest;
+}
+
+/* In the place of the C library's: a file can only be caught changing if it changes between two looks at it. Once, or it would never end. */
+ssize_t read(int from, void *bytes, size_t length) {
+    static bool done;
+    const char *spoiled = getenv("CWR_DOUBLE_SPOILS");
+    struct iovec part = {bytes, length};
+    if (spoiled && !done) {
+        int to = open(spoiled, O_WRONLY | O_APPEND);
+        done = true;
+        if (to >= 0 && write(to, "x", 1) == 1)
+            close(to);
+    }
+    return readv(from, &part, 1);
+}
