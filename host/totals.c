@@ -40,13 +40,12 @@ static void say_percent(struct out *out, const char *words, uint64_t hundredths)
 }
 
 void say_totals(struct out *out, const struct check *check, size_t header) {
-    say(out, "      found");
     for (size_t right = 0; right < RIGHTS; right++) {
         uint64_t publishers = total(check, header, right, true), writers = total(check, header, right, false);
-        say(out, "%s %s", right == 0 ? "" : ";", rights[right]);
+        say(out, "      found %s", rights[right]);
         say_percent(out, ": publishers ", publishers);
         say_percent(out, ", writers ", writers);
         say_percent(out, ", together ", publishers + writers);
+        say(out, "\n");
     }
-    say(out, "\n");
 }

@@ -8,7 +8,7 @@
 /* The end of the transaction that this header begins: the record behind its last. */
 size_t transaction_end(const struct check *check, size_t header);
 
-/* One line: publishers, writers and both, for each right. */
+/* A line for each right: publishers, writers, and both together. */
 void say_totals(struct out *out, const struct check *check, size_t header);
 
 #endif
