@@ -3,8 +3,8 @@
  * What is lent to a call
  * - Every slice is a pointer and a length in bytes. No pointer may be null, not
  *   even with length 0. Slices that are written must not overlap any other.
- * - No call reads or writes outside the slices it was lent, keeps a pointer,
- *   allocates, or has any state of its own: equal inputs give equal outcomes.
+ * - No call reads or writes outside the slices it was lent, or keeps anything
+ *   of them: equal inputs give equal outcomes.
  * - A record is the text before a CR LF pair; records count from 0.
  *
  * What is answered by the first three calls

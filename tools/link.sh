@@ -5,7 +5,7 @@
 
 stop() {
   printf '%s: %s\n' "$me" "$*" >&2
-  exit "${stop_status:-2}"
+  exit 2
 }
 
 # build WORDS COMMAND..: what it prints is shown only where it fails
