@@ -1,3 +1,4 @@
 pub mod Outcomes
 pub mod Refusals
 pub mod Slots
+pub mod Alone

@@ -1,4 +1,5 @@
-// The library: the calls that are open to others. Each takes whatever it is lent, and its contract states the entire outcome.
+// The library: the calls that are open to others. Each takes whatever it is lent, and its contract states the entire outcome, by one of the
+// promises in specs/Promises.antt.
 use answers::Answer;
 use fields::Share;
 ghost use mathlib.Core.Path.{_≡_};
@@ -10,16 +11,15 @@ ghost use Rattle.format.specs.Structure.{mostBytes};
 ghost use Rattle.format.specs.Table.{unknown};
 ghost use Rattle.rules.specs.Tables.{languageSize, societySize, categorySize, rightTable};
 ghost use Rattle.rules.specs.Values.{largestTolerance};
-ghost use Rattle.rules.specs.Findings.{places, countOf, lowestOf};
 ghost use Rattle.rules.specs.Verdicts.{fileFindings, fileVerdicts};
-ghost use Rattle.rules.specs.Outcome.{enough, answer as Outcome·answer, content, check as Outcome·check, shortTolerance};
+ghost use Rattle.rules.specs.Outcome.{enough, answer as Outcome·answer, content, shortTolerance};
 ghost use Rattle.answers.specs.Numbers.{answerOf};
 ghost use Rattle.structure.specs.Cursor.{Here};
 ghost use Rattle.buffers.specs.Written.{Written};
-ghost use Rattle.numbering.specs.Outcome.{numberAnswer, numberBuffer};
 ghost use Rattle.works.specs.Walk.{restAt, Room};
 ghost use Rattle.files.specs.Levels.{tablesOf};
-ghost use Rattle.cwr.specs.Outcome.{outcome, AllIndexed};
+ghost use Rattle.cwr.specs.Outcome.{AllIndexed};
+ghost use Rattle.cwr.specs.Promises.{Checked, Numbered, Counted, Lowest};
 
 // How many bytes an entry of each table has.
 const LANGUAGE: usize = 2;
@@ -151,7 +151,7 @@ pub fn check(
     verdicts: &mut [u8],
     findings: &mut [u8],
 ) -> Answer
-    ensures { λ r. ⌜ outcome r (now (verdicts .exit)) (now (findings .exit)) ≡ Outcome·check (tablesOf (now (languages .entry)) (now (societies .entry)) (now (categories .entry))) tolerance (now (file .entry)) (now (verdicts .entry)) (now (findings .entry)) ⌝ }
+    ensures { λ r. ⌜ Checked (tablesOf (now (languages .entry)) (now (societies .entry)) (now (categories .entry))) tolerance (now (file .entry)) (now (verdicts .entry)) (now (findings .entry)) r (now (verdicts .exit)) (now (findings .exit)) ⌝ }
 {
     let r = answer(
         file,
@@ -186,7 +186,7 @@ pub fn check_short(
     verdicts: &mut [u8],
     findings: &mut [u8],
 ) -> Answer
-    ensures { λ r. ⌜ outcome r (now (verdicts .exit)) (now (findings .exit)) ≡ Outcome·check (tablesOf (now (languages .entry)) (now (societies .entry)) (now (categories .entry))) shortTolerance (now (file .entry)) (now (verdicts .entry)) (now (findings .entry)) ⌝ }
+    ensures { λ r. ⌜ Checked (tablesOf (now (languages .entry)) (now (societies .entry)) (now (categories .entry))) shortTolerance (now (file .entry)) (now (verdicts .entry)) (now (findings .entry)) r (now (verdicts .exit)) (now (findings .exit)) ⌝ }
 {
     check(
         file,
@@ -201,22 +201,21 @@ pub fn check_short(
 
 // Numbers a file into out.
 pub fn number(file: &[u8], out: &mut [u8]) -> Answer
-    ensures { λ r. ⌜ answerOf r ≡ numberAnswer (now (file .entry)) (length (now (out .entry))) ⌝ }
-    ensures { λ _. ⌜ now (out .exit) ≡ numberBuffer (now (file .entry)) (now (out .entry)) ⌝ }
+    ensures { λ r. ⌜ Numbered (now (file .entry)) (now (out .entry)) r (now (out .exit)) ⌝ }
 {
     numbering::number(file, out)
 }
 
 // How many findings are in a record's set.
 pub fn count(set: u64) -> u32
-    ensures { λ r. ⌜ r ≡ countOf (places 64 set) ⌝ }
+    ensures { λ r. ⌜ Counted set r ⌝ }
 {
     sets::count(set)
 }
 
 // The lowest of them; 64 where there is none.
 pub fn lowest(set: u64) -> u32
-    ensures { λ r. ⌜ r ≡ lowestOf (places 64 set) ⌝ }
+    ensures { λ r. ⌜ Lowest set r ⌝ }
 {
     sets::lowest(set)
 }

@@ -1,0 +1,34 @@
+-- What each call promises of its answer and of what it leaves, and that one outcome alone fits it: proofs/Alone.antt has the proof.
+use Prim.Native.Nat.{ℕ}
+use mathlib.Core.Path.{_≡_}
+use lib.ListN.{length}
+use Rattle.format.specs.Bytes.{Bytes}
+use Rattle.rules.specs.Tables.{Tables}
+use Rattle.rules.specs.Findings.{places, countOf, lowestOf}
+use Rattle.rules.specs.Outcome.{check}
+use Rattle.answers.specs.declared.Answer.{Answer}
+use Rattle.answers.specs.Numbers.{answerOf}
+use Rattle.numbering.specs.Outcome.{numberAnswer, numberBuffer}
+use Rattle.cwr.specs.Outcome.{outcome}
+
+-- `check`, with the buffers v and g before it and v' and g' behind it; `check_short` with the short form's tolerance
+abbrev pub Checked : Tables → ℕ → Bytes → Bytes → Bytes → Answer → Bytes → Bytes → Type 0
+Checked tables t f v g r v' g' = outcome r v' g' ≡ check tables t f v g
+
+-- `number`, with the buffer before it and behind it
+abbrev pub Numbered : Bytes → Bytes → Answer → Bytes → Type 0
+Numbered f out r out' = (answerOf r ≡ numberAnswer f (length out)) × (out' ≡ numberBuffer f out)
+
+-- `count` and `lowest`
+abbrev pub Counted : ℕ → ℕ → Type 0
+Counted set r = r ≡ countOf (places 64 set)
+
+abbrev pub Lowest : ℕ → ℕ → Type 0
+Lowest set r = r ≡ lowestOf (places 64 set)
+
+pub record OneFits : Type 0 where
+  pub check : (tables : Tables) (t : ℕ) (f v g : Bytes) (r s : Answer) (v₁ g₁ v₂ g₂ : Bytes) → Checked tables t f v g r v₁ g₁
+      → Checked tables t f v g s v₂ g₂ → (r ≡ s) × (v₁ ≡ v₂) × (g₁ ≡ g₂)
+  pub number : (f out : Bytes) (r s : Answer) (a b : Bytes) → Numbered f out r a → Numbered f out s b → (r ≡ s) × (a ≡ b)
+  pub count : (set r s : ℕ) → Counted set r → Counted set s → r ≡ s
+  pub lowest : (set r s : ℕ) → Lowest set r → Lowest set s → r ≡ s
