@@ -1,12 +1,21 @@
 //! The reference: the scope read plainly, with its numbers and in its order.
 //! Where two readers could differ, the agreed readings decide.
 
+pub mod check;
+pub mod findings;
+pub mod lent;
 pub mod lines;
+pub mod listing;
 pub mod numbering;
 pub mod numbers;
 pub mod structure;
 pub mod types;
+pub mod values;
+pub mod verdicts;
 
+pub use check::{check, check_short};
+pub use lent::Tables;
+pub use listing::listing;
 pub use numbering::numbering;
 pub use structure::structure;
 

@@ -3,15 +3,21 @@
 use super::lines::{lines, refusal_3, refusal_4, refusal_5, Line};
 use super::numbers::{counts, right_numbers, Number};
 use super::types::{find, Class};
-use super::{answer, field, refused, Answer, Counts, Refusal};
+use super::{answer, field, refused, Answer, Refusal};
 
 /// Whether the file is refused by 3 to 10, and its three numbers if not.
 pub fn structure(file: &[u8]) -> Answer {
-    answer(check(file))
+    answer(refusals_3_to_10(file).map(|structure| counts(&structure.classes)))
+}
+
+/// The records of a file that is structurally right, and what they are.
+pub struct Structure<'a> {
+    pub lines: Vec<Line<'a>>,
+    pub classes: Vec<Class>,
 }
 
 /// "Checks run in this order, each over the whole file before the next."
-fn check(file: &[u8]) -> Result<Counts, Refusal> {
+pub fn refusals_3_to_10(file: &[u8]) -> Result<Structure<'_>, Refusal> {
     refusal_3(file)?;
     refusal_4(file)?;
     refusal_5(file)?;
@@ -22,7 +28,7 @@ fn check(file: &[u8]) -> Result<Counts, Refusal> {
     refusal_8(&lines, &classes, &right)?;
     refusal_9(&lines, &classes, &right)?;
     refusal_10(&lines)?;
-    Ok(counts(&classes))
+    Ok(Structure { lines, classes })
 }
 
 /// "Unknown type, or wrong length." Gives the records' classes.

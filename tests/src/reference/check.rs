@@ -1,0 +1,56 @@
+//! The check: refusals 1 to 11, then verdicts and findings.
+
+use super::findings::sets;
+use super::lent::{refusal_1, refusal_11, refusal_2, Tables, LARGEST_TOLERANCE};
+use super::numbers::counts;
+use super::structure::{self, Structure};
+use super::verdicts;
+use super::{answer, Answer, Refusal};
+
+/// Checks a file: writes one byte a record to `out_verdicts` and eight to
+/// `out_findings`, least significant first; nothing where it refuses.
+pub fn check(
+    tolerance: u64,
+    file: &[u8],
+    tables: &Tables,
+    out_verdicts: &mut [u8],
+    out_findings: &mut [u8],
+) -> Answer {
+    let Structure { lines, classes } =
+        match passes(tolerance, file, tables, out_verdicts, out_findings) {
+            Err(refusal) => return answer(Err(refusal)),
+            Ok(structure) => structure,
+        };
+    let sets = sets(&lines, &classes, *tables, tolerance);
+    let verdicts = verdicts::verdicts(&classes, &sets);
+    for (record, (set, verdict)) in sets.into_iter().zip(verdicts).enumerate() {
+        out_verdicts[record] = verdict;
+        out_findings[8 * record..8 * record + 8].copy_from_slice(&set.to_le_bytes());
+    }
+    answer(Ok(counts(&classes)))
+}
+
+/// "A short form of the call takes no tolerance and uses 6."
+pub fn check_short(
+    file: &[u8],
+    tables: &Tables,
+    out_verdicts: &mut [u8],
+    out_findings: &mut [u8],
+) -> Answer {
+    check(LARGEST_TOLERANCE, file, tables, out_verdicts, out_findings)
+}
+
+/// "Checks run in this order, each over the whole file before the next."
+fn passes<'a>(
+    tolerance: u64,
+    file: &'a [u8],
+    tables: &Tables,
+    out_verdicts: &[u8],
+    out_findings: &[u8],
+) -> Result<Structure<'a>, Refusal> {
+    refusal_1(tolerance)?;
+    refusal_2(tables)?;
+    let structure = structure::refusals_3_to_10(file)?;
+    refusal_11(structure.lines.len(), out_verdicts, out_findings)?;
+    Ok(structure)
+}

@@ -1,0 +1,42 @@
+//! What the caller lends besides the file: refusals 1, 2 and 11.
+
+use super::{refused, Refusal};
+
+pub const LARGEST_TOLERANCE: u64 = 6;
+pub const MOST_ENTRIES: usize = 1024;
+
+/// The three lookup tables, entry after entry.
+#[derive(Clone, Copy, Debug)]
+pub struct Tables<'a> {
+    pub languages: &'a [u8],
+    pub societies: &'a [u8],
+    pub categories: &'a [u8],
+}
+
+/// "Tolerance above 6."
+pub fn refusal_1(tolerance: u64) -> Result<(), Refusal> {
+    if tolerance > LARGEST_TOLERANCE {
+        return Err(refused(1, 0));
+    }
+    Ok(())
+}
+
+/// "A table's length is no multiple of its entry size, or it has over 1,024
+/// entries": the first such table.
+pub fn refusal_2(tables: &Tables) -> Result<(), Refusal> {
+    let sized = [(tables.languages, 2), (tables.societies, 3), (tables.categories, 3)];
+    for (place, (table, size)) in sized.into_iter().enumerate() {
+        if table.len() % size != 0 || table.len() / size > MOST_ENTRIES {
+            return Err(refused(2, place));
+        }
+    }
+    Ok(())
+}
+
+/// "An output buffer too short": one byte a record, and eight.
+pub fn refusal_11(records: usize, verdicts: &[u8], findings: &[u8]) -> Result<(), Refusal> {
+    if verdicts.len() < records || findings.len() < 8 * records {
+        return Err(refused(11, 0));
+    }
+    Ok(())
+}
