@@ -1,9 +1,11 @@
 /* The driver: holds the library and answers requests read from standard input
- * on standard output; the form of both stands in src/driver.rs.
+ * on standard output; the form of both stands in src/calls.rs. Built twice:
+ * with PROBE defined it holds the archive of the probe, else the library's
+ * own, since the two need not go into one program.
  *
  * No header is included, so that it can be compiled for another machine
  * without that machine's headers: what it needs is declared here. It supposes
- * 32-bit int and 64-bit long and pointers. */
+ * 32-bit int, 64-bit long and pointers, and the constants of Linux. */
 
 typedef unsigned char u8;
 typedef unsigned int u32;
@@ -15,16 +17,12 @@ _Static_assert(sizeof(size) == 8 && sizeof(void *) == 8, "sizes of pointers");
 
 long read(int from, void *bytes, size length);
 long write(int to, const void *bytes, size length);
-void *malloc(size length);
-void free(void *bytes);
+void *mmap(void *at, size length, int access, int flags, int file, long offset);
+int mprotect(void *at, size length, int access);
+int munmap(void *at, size length);
 _Noreturn void exit(int status);
 
-/* The library under test. Packed: refusal number times 2^32 plus place, or
- * the number of records. */
-u64 probe_structure(const u8 *file, size len);
-u64 probe_groups(const u8 *file, size len);
-u64 probe_transactions(const u8 *file, size len);
-u64 probe_number(const u8 *file, size len, u8 *out, size out_len);
+enum { NO_ACCESS = 0, READ_AND_WRITE = 3, PRIVATE_AND_ANONYMOUS = 0x22 };
 
 /* Reads this many bytes; 0 where the input ends before the first. */
 static int get(u8 *bytes, size length) {
@@ -56,8 +54,11 @@ static void put(const u8 *bytes, size length) {
     }
 }
 
-static u32 number(const u8 *bytes) {
-    return (u32)bytes[0] | (u32)bytes[1] << 8 | (u32)bytes[2] << 16 | (u32)bytes[3] << 24;
+static u64 number(const u8 *bytes, int length) {
+    u64 value = 0;
+    for (int at = length - 1; at >= 0; at--)
+        value = value << 8 | bytes[at];
+    return value;
 }
 
 static void store(u8 *bytes, u64 value) {
@@ -65,50 +66,147 @@ static void store(u8 *bytes, u64 value) {
         bytes[at] = (u8)(value >> (8 * at));
 }
 
-/* Exactly as long as asked, so that a memory checker sees any overrun. */
-static u8 *buffer(size length) {
-    u8 *bytes = malloc(length ? length : 1);
-    if (!bytes)
+/* A part of the request, in memory of its own. */
+struct part {
+    u8 *bytes;
+    size length;
+    u8 *mapped;
+    size mapped_length;
+};
+
+/* Where the part lies: the values of Guard in src/calls.rs. */
+enum { ANYWHERE = 0, BEFORE_AN_EDGE = 1, BEHIND_AN_EDGE = 2 };
+
+/* A multiple of every size that a page has. */
+#define EDGE ((size)65536)
+
+/* Room for a part. Without a guard it still stands alone, so that a long way
+ * outside is noticed. With one, any byte outside on that side kills us. */
+static void place(struct part *part, u64 guard) {
+    size room = (part->length + EDGE - 1) / EDGE * EDGE;
+    part->mapped_length = room + 3 * EDGE;
+    part->mapped = mmap(0, part->mapped_length, READ_AND_WRITE, PRIVATE_AND_ANONYMOUS, -1, 0);
+    if ((long)part->mapped == -1)
         exit(3);
-    return bytes;
+    /* An edge, the room, an edge. */
+    size first = ((size)part->mapped + EDGE - 1) / EDGE * EDGE;
+    u8 *begin = (u8 *)first + EDGE;
+    part->bytes = guard == BEFORE_AN_EDGE ? begin + (room - part->length) : begin;
+    if (guard != ANYWHERE &&
+        (mprotect(begin - EDGE, EDGE, NO_ACCESS) || mprotect(begin + room, EDGE, NO_ACCESS)))
+        exit(3);
 }
 
-int main(void) {
-    u8 request[9];
-    while (get(request, 1)) {
-        get_all(request + 1, 8);
-        size file_length = number(request + 1);
-        size out_length = number(request + 5);
-        u8 *file = buffer(file_length);
-        get_all(file, file_length);
-        u8 *out = buffer(out_length);
-        get_all(out, out_length);
+static void release(struct part *part) {
+    if (munmap(part->mapped, part->mapped_length))
+        exit(3);
+}
 
-        u64 packed = 0, groups = 0, transactions = 0;
-        if (request[0] == 's') {
-            packed = probe_structure(file, file_length);
-            groups = probe_groups(file, file_length);
-            transactions = probe_transactions(file, file_length);
-        } else if (request[0] == 'n') {
-            packed = probe_number(file, file_length, out, out_length);
-            /* Passed with too short a buffer would be a fault; not ours. */
-            if (packed >> 32 == 0 && out_length >= file_length) {
-                groups = probe_groups(out, file_length);
-                transactions = probe_transactions(out, file_length);
-            }
-        } else {
-            exit(3);
+/* The parts in the order in which they come. */
+enum { THE_FILE, LANGUAGES, SOCIETIES, CATEGORIES, FIRST, SECOND, PARTS };
+
+/* A sum over the lent parts, to see that they stay as they are; of eight bytes
+ * at a time, for the large files' sake. */
+static u64 sum(const struct part *parts) {
+    u64 value = 0;
+    for (int which = THE_FILE; which < FIRST; which++) {
+        const u8 *bytes = parts[which].bytes;
+        for (size left = parts[which].length; left > 0;) {
+            u64 some = 0;
+            int length = left < 8 ? (int)left : 8;
+            __builtin_memcpy(&some, bytes, (size)length);
+            value = (value ^ some) * 0x100000001b3;
+            bytes += length;
+            left -= (size)length;
+        }
+    }
+    return value;
+}
+
+/* The library under test. Packed: refusal number times 2^32 plus place, or
+ * the number of records. */
+#ifdef PROBE
+u64 probe_structure(const u8 *file, size len);
+u64 probe_groups(const u8 *file, size len);
+u64 probe_transactions(const u8 *file, size len);
+u64 probe_number(const u8 *file, size len, u8 *out, size out_len);
+
+static void call(u8 letter, u64 value, struct part *parts, u64 *answer) {
+    const u8 *file = parts[THE_FILE].bytes;
+    size length = parts[THE_FILE].length;
+    (void)value;
+    if (letter == 's') {
+        answer[0] = probe_structure(file, length);
+        answer[1] = probe_groups(file, length);
+        answer[2] = probe_transactions(file, length);
+    } else if (letter == 'k') {
+        struct part *out = &parts[FIRST];
+        answer[0] = probe_number(file, length, out->bytes, out->length);
+        /* Passed with too short a buffer would be a fault; not ours. */
+        if (answer[0] >> 32 == 0 && out->length >= length) {
+            answer[1] = probe_groups(out->bytes, length);
+            answer[2] = probe_transactions(out->bytes, length);
+        }
+    } else {
+        exit(3);
+    }
+}
+#else
+u64 cwr_check(const u8 *file, size file_len, const u8 *languages, size languages_len,
+              const u8 *societies, size societies_len, const u8 *categories, size categories_len,
+              u8 *verdicts, size verdicts_len, u8 *findings, size findings_len);
+u64 cwr_check_within(u64 tolerance, const u8 *file, size file_len, const u8 *languages,
+                     size languages_len, const u8 *societies, size societies_len,
+                     const u8 *categories, size categories_len, u8 *verdicts, size verdicts_len,
+                     u8 *findings, size findings_len);
+u64 cwr_number(const u8 *file, size len, u8 *out, size out_len);
+u32 cwr_findings_count(u64 set);
+u32 cwr_findings_lowest(u64 set);
+
+#define LENT(which) parts[which].bytes, parts[which].length
+
+static void call(u8 letter, u64 value, struct part *parts, u64 *answer) {
+    if (letter == 'c') {
+        answer[0] = cwr_check(LENT(THE_FILE), LENT(LANGUAGES), LENT(SOCIETIES), LENT(CATEGORIES),
+                              LENT(FIRST), LENT(SECOND));
+    } else if (letter == 'w') {
+        answer[0] = cwr_check_within(value, LENT(THE_FILE), LENT(LANGUAGES), LENT(SOCIETIES),
+                                     LENT(CATEGORIES), LENT(FIRST), LENT(SECOND));
+    } else if (letter == 'n') {
+        answer[0] = cwr_number(LENT(THE_FILE), LENT(FIRST));
+    } else if (letter == 'b') {
+        answer[0] = cwr_findings_count(value);
+        answer[1] = cwr_findings_lowest(value);
+    } else {
+        exit(3);
+    }
+}
+#endif
+
+int main(void) {
+    u8 head[34];
+    while (get(head, 1)) {
+        get_all(head + 1, sizeof head - 1);
+        struct part parts[PARTS];
+        for (int which = 0; which < PARTS; which++) {
+            parts[which].length = number(head + 10 + 4 * which, 4);
+            place(&parts[which], head[1]);
+            get_all(parts[which].bytes, parts[which].length);
         }
 
-        u8 answer[24];
-        store(answer, packed);
-        store(answer + 8, groups);
-        store(answer + 16, transactions);
-        put(answer, sizeof answer);
-        if (request[0] == 'n')
-            put(out, out_length);
-        free(file);
-        free(out);
+        u64 before = sum(parts);
+        u64 answer[3] = {0, 0, 0};
+        call(head[0], number(head + 2, 8), parts, answer);
+
+        u8 reply[25];
+        for (int which = 0; which < 3; which++)
+            store(reply + 8 * which, answer[which]);
+        reply[24] = sum(parts) != before;
+        put(reply, sizeof reply);
+        put(parts[FIRST].bytes, parts[FIRST].length);
+        put(parts[SECOND].bytes, parts[SECOND].length);
+        for (int which = 0; which < PARTS; which++)
+            release(&parts[which]);
     }
     return 0;
 }

@@ -1,11 +1,6 @@
-//! The driver: the program that holds the library, asked over its standard
-//! input and answering on its standard output.
-//!
-//! All numbers little-endian. Request: operation (`s` or `n`), u32 length of
-//! the file, u32 length of the buffer (0 for `s`), the file, the buffer as it
-//! is before the call. Answer: u64 packed, u64 groups, u64 transactions (0
-//! where refused), and for `n` the buffer as it is after the call. The driver
-//! ends at the end of its input.
+//! A driver, the program that holds the library: started, asked over its
+//! standard input and answering on its standard output. It ends at the end of
+//! its input. And the listing program, started for each input.
 
 use std::io::{self, Read, Write};
 use std::process::{Child, ChildStdin, Command, ExitStatus, Stdio};
@@ -13,152 +8,7 @@ use std::sync::mpsc::{channel, Receiver, RecvTimeoutError, Sender};
 use std::thread;
 use std::time::{Duration, Instant};
 
-use crate::reference::{self, Answer};
-
-#[derive(Clone, Copy, Debug, PartialEq, Eq, PartialOrd, Ord)]
-pub enum Operation {
-    Structure,
-    Numbering,
-}
-
-impl Operation {
-    pub const ALL: [Operation; 2] = [Operation::Structure, Operation::Numbering];
-
-    pub fn letter(self) -> u8 {
-        match self {
-            Operation::Structure => b's',
-            Operation::Numbering => b'n',
-        }
-    }
-
-    pub fn of_letter(letter: u8) -> Option<Operation> {
-        match letter {
-            b's' => Some(Operation::Structure),
-            b'n' => Some(Operation::Numbering),
-            _ => None,
-        }
-    }
-
-    pub fn name(self) -> &'static str {
-        match self {
-            Operation::Structure => "structure",
-            Operation::Numbering => "numbering",
-        }
-    }
-
-    /// The buffer that goes with the request.
-    pub fn buffer(self, out: &[u8]) -> &[u8] {
-        match self {
-            Operation::Structure => &[],
-            Operation::Numbering => out,
-        }
-    }
-}
-
-/// What is answered to a request.
-#[derive(Clone, Debug, PartialEq, Eq)]
-pub struct Reply {
-    pub packed: u64,
-    pub groups: u64,
-    pub transactions: u64,
-    /// The buffer after the call.
-    pub out: Vec<u8>,
-}
-
-impl Reply {
-    pub fn new(answer: Answer, out: Vec<u8>) -> Reply {
-        let (groups, transactions) = match answer {
-            Answer::Refused { .. } => (0, 0),
-            Answer::Passed {
-                groups,
-                transactions,
-                ..
-            } => (groups, transactions),
-        };
-        Reply {
-            packed: answer.packed(),
-            groups,
-            transactions,
-            out,
-        }
-    }
-
-    /// Number of the refusal; 0 where passed.
-    pub fn refusal(&self) -> u64 {
-        self.packed >> 32
-    }
-
-    pub fn describe(&self) -> String {
-        let Reply {
-            packed,
-            groups,
-            transactions,
-            ..
-        } = self;
-        match self.refusal() {
-            0 => format!("passed: {groups} groups, {transactions} transactions, {packed} records"),
-            number => {
-                let place = packed & 0xffff_ffff;
-                let mut text = format!("refused {number} at {place}");
-                if (*groups, *transactions) != (0, 0) {
-                    text += &format!(", yet {groups} groups, {transactions} transactions");
-                }
-                text
-            }
-        }
-    }
-}
-
-/// What the reference answers to a request.
-pub fn expected(operation: Operation, file: &[u8], out: &[u8]) -> Reply {
-    let mut out = operation.buffer(out).to_vec();
-    let answer = match operation {
-        Operation::Structure => reference::structure(file),
-        Operation::Numbering => reference::numbering(file, &mut out),
-    };
-    Reply::new(answer, out)
-}
-
-/// What is asked.
-pub struct Request {
-    pub operation: Operation,
-    pub file: Vec<u8>,
-    /// The buffer before the call.
-    pub out: Vec<u8>,
-}
-
-/// Reads a request; none at the end of the input.
-pub fn read_request(input: &mut impl Read) -> io::Result<Option<Request>> {
-    let mut letter = [0];
-    if input.read(&mut letter)? == 0 {
-        return Ok(None);
-    }
-    let operation = Operation::of_letter(letter[0])
-        .ok_or_else(|| io::Error::new(io::ErrorKind::InvalidData, "unknown operation"))?;
-    let mut lengths = [0; 8];
-    input.read_exact(&mut lengths)?;
-    let (file_length, out_length) = lengths.split_at(4);
-    let length = |bytes: &[u8]| u32::from_le_bytes(bytes.try_into().unwrap()) as usize;
-    let mut file = vec![0; length(file_length)];
-    input.read_exact(&mut file)?;
-    let mut out = vec![0; length(out_length)];
-    input.read_exact(&mut out)?;
-    Ok(Some(Request {
-        operation,
-        file,
-        out,
-    }))
-}
-
-pub fn write_reply(output: &mut impl Write, reply: &Reply) -> io::Result<()> {
-    let mut bytes = Vec::with_capacity(24 + reply.out.len());
-    for number in [reply.packed, reply.groups, reply.transactions] {
-        bytes.extend_from_slice(&number.to_le_bytes());
-    }
-    bytes.extend_from_slice(&reply.out);
-    output.write_all(&bytes)?;
-    output.flush()
-}
+use crate::calls::{Reply, Request};
 
 /// A driver that was started.
 pub struct Driver {
@@ -205,34 +55,21 @@ impl Driver {
     }
 
     /// Asks once; an error says how the driver failed.
-    pub fn ask(&mut self, operation: Operation, file: &[u8], out: &[u8]) -> Result<Reply, String> {
-        let out = operation.buffer(out);
-        let mut request = Vec::with_capacity(9 + file.len() + out.len());
-        request.push(operation.letter());
-        request.extend_from_slice(&(file.len() as u32).to_le_bytes());
-        request.extend_from_slice(&(out.len() as u32).to_le_bytes());
-        request.extend_from_slice(file);
-        request.extend_from_slice(out);
+    pub fn ask(&mut self, request: &Request) -> Result<Reply, String> {
         let input = self.input.as_mut().expect("open until the end");
-        if let Err(error) = input.write_all(&request).and_then(|()| input.flush()) {
+        let sent = input.write_all(&request.bytes()).and_then(|()| input.flush());
+        if let Err(error) = sent {
             return Err(self.failed(&format!("takes no request ({error})")));
         }
-        let _ = self.wanted.send(24 + out.len());
-        let bytes = match self.read.recv_timeout(self.patience) {
-            Ok(Ok(bytes)) => bytes,
-            Ok(Err(error)) => return Err(self.failed(&format!("gives no answer ({error})"))),
+        let _ = self.wanted.send(request.reply_length());
+        match self.read.recv_timeout(self.patience) {
+            Ok(Ok(bytes)) => Ok(Reply::of_bytes(&bytes, request)),
+            Ok(Err(error)) => Err(self.failed(&format!("gives no answer ({error})"))),
             Err(_) => {
                 let _ = self.child.kill();
-                return Err(format!("no answer in {} seconds", self.patience.as_secs()));
+                Err(format!("no answer in {} seconds", self.patience.as_secs()))
             }
-        };
-        let number = |at: usize| u64::from_le_bytes(bytes[at..at + 8].try_into().unwrap());
-        Ok(Reply {
-            packed: number(0),
-            groups: number(8),
-            transactions: number(16),
-            out: bytes[24..].to_vec(),
-        })
+        }
     }
 
     fn failed(&mut self, how: &str) -> String {
@@ -279,5 +116,38 @@ impl Driver {
             status if status.success() => Ok(()),
             status => Err(format!("the driver ended: {status}")),
         }
+    }
+}
+
+/// What the listing program prints for an input; an error says how it failed.
+pub fn list(command: &[String], input: &[u8], patience: Duration) -> Result<Vec<u8>, String> {
+    let mut child = Command::new(&command[0])
+        .args(&command[1..])
+        .stdin(Stdio::piped())
+        .stdout(Stdio::piped())
+        .spawn()
+        .map_err(|error| format!("the listing program does not start: {error}"))?;
+    let mut to = child.stdin.take().expect("piped");
+    let mut from = child.stdout.take().expect("piped");
+    let input = input.to_vec();
+    // It may stop reading where the input is too long; that is its right.
+    thread::spawn(move || to.write_all(&input));
+    let (sender, read) = channel();
+    thread::spawn(move || {
+        let mut printed = Vec::new();
+        let outcome = from.read_to_end(&mut printed).map(|_| printed);
+        let _ = sender.send(outcome);
+    });
+    let Ok(printed) = read.recv_timeout(patience) else {
+        let _ = child.kill();
+        let _ = child.wait();
+        return Err(format!("no end in {} seconds", patience.as_secs()));
+    };
+    let printed = printed.map_err(|error| error.to_string())?;
+    match child.wait() {
+        // No paper says with which status it ends, but it ends by itself.
+        Ok(status) if status.code().is_some() => Ok(printed),
+        Ok(status) => Err(format!("the listing program ended: {status}")),
+        Err(error) => Err(error.to_string()),
     }
 }

@@ -2,12 +2,17 @@
 //! kind, and seed and kind the bytes.
 
 pub mod boundary;
+pub mod changes;
 pub mod damage;
 pub mod each;
+pub mod lent;
 pub mod right;
+pub mod values;
+pub mod works;
 
-use crate::driver::Operation;
+use crate::calls::{Call, Guard, Request};
 use damage::{Damage, Hand};
+use works::Lent;
 
 /// A small generator of random numbers (splitmix64).
 pub struct Random(u64);
@@ -73,15 +78,78 @@ impl Random {
     }
 }
 
-/// A made file with the buffer that numbering is lent for it.
+/// A made file with all that is lent with it.
+#[derive(Clone)]
 pub struct Case {
     pub seed: u64,
     pub kind: String,
     pub file: Vec<u8>,
-    /// The buffer as it is before the call.
+    pub tables: [Vec<u8>; 3],
+    pub tolerance: u64,
+    /// The buffers as they are before the call: those of the check, and the
+    /// one of numbering.
+    pub verdicts: Vec<u8>,
+    pub findings: Vec<u8>,
     pub out: Vec<u8>,
+    /// The set whose number and lowest are asked.
+    pub set: u64,
     /// What is to be compared.
-    pub operations: &'static [Operation],
+    pub calls: Vec<Call>,
+}
+
+impl Case {
+    /// A case with the usual tables, the largest tolerance and buffers that
+    /// are just long enough.
+    pub fn new(seed: u64, kind: String, file: Vec<u8>, calls: &[Call]) -> Case {
+        let mut random = Random::new(seed);
+        let records = records_in(&file);
+        Case {
+            seed,
+            kind,
+            tables: lent::usual(),
+            tolerance: 6,
+            verdicts: random.pattern(records),
+            findings: random.pattern(8 * records),
+            out: random.pattern(file.len()),
+            set: random.draw(),
+            file,
+            calls: calls.to_vec(),
+        }
+    }
+
+    /// What a call is asked.
+    pub fn request(&self, call: Call, guard: Guard) -> Request {
+        let mut request = Request {
+            call,
+            guard,
+            number: 0,
+            file: Vec::new(),
+            tables: Default::default(),
+            buffers: Default::default(),
+        };
+        if call == Call::Bits {
+            request.number = self.set;
+            return request;
+        }
+        request.file = self.file.clone();
+        match call {
+            Call::Check | Call::Within => {
+                if call == Call::Within {
+                    request.number = self.tolerance;
+                }
+                request.tables = self.tables.clone();
+                request.buffers = [self.verdicts.clone(), self.findings.clone()];
+            }
+            Call::Number | Call::Counted => request.buffers[0] = self.out.clone(),
+            _ => {}
+        }
+        request
+    }
+}
+
+/// How many lines a file has.
+fn records_in(file: &[u8]) -> usize {
+    file.windows(2).filter(|pair| pair == b"\r\n").count()
 }
 
 /// Smaller seeds are numbers of files that are made once each.
@@ -105,7 +173,7 @@ pub fn seeds(run: u64, files: u64) -> Vec<u64> {
 }
 
 /// Shorter runs have no files that are made once.
-pub const FILES_WITH_ONCE: u64 = 3000;
+pub const FILES_WITH_ONCE: u64 = 10_000;
 
 /// The file of this seed; none where it is a number that no file has.
 pub fn case(seed: u64) -> Option<Case> {
@@ -116,26 +184,61 @@ pub fn case(seed: u64) -> Option<Case> {
     }
     let kind = kind(seed);
     let mut random = Random::new(seed);
-    let file = file(&kind, &mut random);
-    let length = match random.below(20) {
-        0..=11 => file.len(),
-        12..=14 => file.len() + random.between(1, 64),
-        15 => file.len() + 1,
-        16 | 17 => file.len().saturating_sub(1),
-        18 => random.between(0, file.len()),
-        _ => 0,
+    let tables = lent::tables(&mut random);
+    let tolerance = lent::tolerance(&mut random);
+    let lent = Lent {
+        tables: &tables,
+        tolerance,
     };
-    Some(Case {
-        seed,
-        kind: kind.name(),
-        out: random.pattern(length),
-        file,
-        operations: &Operation::ALL,
-    })
+    let file = file(&kind, &lent, &mut random);
+    let calls = calls(&kind, &file, &mut random);
+    let mut case = Case::new(seed, kind.name(), file, &calls);
+    case.tables = tables;
+    case.tolerance = tolerance;
+    if random.one_in(40) {
+        case.tolerance = lent::too_large(&mut random);
+    }
+    if random.one_in(20) {
+        lent::spoil(&mut case.tables, &mut random);
+    }
+    let records = records_in(&case.file);
+    for (buffer, enough) in [
+        (&mut case.verdicts, records),
+        (&mut case.findings, 8 * records),
+        (&mut case.out, case.file.len()),
+    ] {
+        let length = lent::length(enough, &mut random);
+        *buffer = random.pattern(length);
+    }
+    Some(case)
+}
+
+/// The calls that are compared for a file; not all of them for each.
+fn calls(kind: &Kind, file: &[u8], random: &mut Random) -> Vec<Call> {
+    let judged = matches!(kind, Kind::Works | Kind::Right);
+    let mut calls = vec![random.of(&[Call::Check, Call::Within])];
+    for (call, times) in [
+        (Call::Number, if judged { 6 } else { 2 }),
+        (Call::Bits, 12),
+        (Call::Structure, if judged { 8 } else { 2 }),
+        (Call::Counted, if judged { 12 } else { 4 }),
+    ] {
+        if random.one_in(times) {
+            calls.push(call);
+        }
+    }
+    // A program is started for it, which takes long.
+    if file.len() < 70_000 && random.one_in(100) {
+        calls.push(Call::Listing);
+    }
+    calls
 }
 
 /// How a file is made.
 pub enum Kind {
+    /// Works with few findings.
+    Works,
+    /// Any types and any text.
     Right,
     /// Right but for its number positions.
     Unnumbered,
@@ -145,6 +248,7 @@ pub enum Kind {
 impl Kind {
     pub fn name(&self) -> String {
         match self {
+            Kind::Works => "works".to_string(),
             Kind::Right => "right".to_string(),
             Kind::Unnumbered => "right but for its numbers".to_string(),
             Kind::Damaged(damages) => {
@@ -160,9 +264,10 @@ pub fn kind(seed: u64) -> Kind {
     // Not the same numbers as the file's own.
     let mut random = Random::new(seed ^ 0x6B69_6E64_6B69_6E64);
     let damages = match random.below(100) {
-        0..=21 => return Kind::Right,
-        22..=33 => return Kind::Unnumbered,
-        34..=65 => 1,
+        0..=59 => return Kind::Works,
+        60..=64 => return Kind::Right,
+        65..=68 => return Kind::Unnumbered,
+        69..=83 => 1,
         // Several, since the order of the refusals matters.
         _ => random.between(2, 4),
     };
@@ -170,10 +275,19 @@ pub fn kind(seed: u64) -> Kind {
 }
 
 /// The file of a kind.
-pub fn file(kind: &Kind, random: &mut Random) -> Vec<u8> {
-    let mut records = right::records(random);
+pub fn file(kind: &Kind, lent: &Lent, random: &mut Random) -> Vec<u8> {
+    let works = match kind {
+        Kind::Works => true,
+        Kind::Right => false,
+        Kind::Unnumbered | Kind::Damaged(_) => random.one_in(2),
+    };
+    let mut records = if works {
+        works::records(lent, random)
+    } else {
+        right::records(random)
+    };
     match kind {
-        Kind::Right => join(&records),
+        Kind::Works | Kind::Right => join(&records),
         Kind::Unnumbered => {
             damage::unnumber(&mut records, random);
             join(&records)

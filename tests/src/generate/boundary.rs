@@ -2,22 +2,30 @@
 
 use super::damage::unnumber;
 use super::right::{blank, detail, header, named, put, write};
-use super::{join, Case, Random};
-use crate::driver::Operation;
+use super::{join, works, Case, Random};
+use crate::calls::Call;
 use crate::reference::lines::{LARGEST_FILE, MOST_RECORDS};
 use crate::reference::types::Type;
 
-/// What is compared, and the buffer for numbering.
+/// What is compared, and what is lent for it. Not all calls for each file,
+/// since they are large.
 #[derive(Clone, Copy)]
 enum Calls {
-    /// Both calls, the buffer as long as the file.
+    /// The check, numbering and the structure alone.
+    All,
+    /// The check and numbering.
     Both,
-    /// The same file stands here with another buffer, or numbering would be
-    /// no other than for that one.
-    Structure,
+    /// Those, and the numbers of groups and transactions both ways.
+    Counted,
+    /// The check alone: the same file stands here with another buffer, or
+    /// numbering would be no other than for that one.
+    Check,
+    /// The check in its short form, the buffers so many bytes longer than
+    /// they must be.
+    Buffers(isize, isize),
     /// Numbering alone, the buffer so many bytes longer than the file.
-    Numbering(isize),
-    /// Both calls, no buffer: something else is refused before.
+    Number(isize),
+    /// The check and numbering, no buffers: something else is refused before.
     Refused,
 }
 
@@ -29,12 +37,12 @@ const BOUNDARIES: &[Boundary] = &[
     }),
     (
         "right, 16,777,216 bytes, buffer short",
-        Calls::Numbering(-1),
+        Calls::Number(-1),
         |random| join(&of_size(LARGEST_FILE, random)),
     ),
     (
         "unnumbered, 16,777,215 bytes, buffer longer",
-        Calls::Numbering(1),
+        Calls::Number(1),
         |random| {
             let mut records = of_size(LARGEST_FILE - 1, random);
             unnumber(&mut records, random);
@@ -64,29 +72,29 @@ const BOUNDARIES: &[Boundary] = &[
     ("131,073 empty lines", Calls::Both, |_| {
         b"\r\n".repeat(MOST_RECORDS + 1)
     }),
-    ("131,073 empty lines, then text", Calls::Both, |_| {
+    ("131,073 empty lines, then text", Calls::All, |_| {
         let mut file = b"\r\n".repeat(MOST_RECORDS + 1);
         file.push(b' ');
         file
     }),
-    ("right, 131,072 records", Calls::Both, |random| {
+    ("right, 131,072 records", Calls::All, |random| {
         join(&of_records(MOST_RECORDS, random))
     }),
     (
         "right, 131,072 records, buffer short",
-        Calls::Numbering(-1),
+        Calls::Number(-1),
         |random| join(&of_records(MOST_RECORDS, random)),
     ),
     (
         "unnumbered, 131,071 records, buffer longer",
-        Calls::Numbering(4096),
+        Calls::Number(4096),
         |random| {
             let mut records = of_records(MOST_RECORDS - 1, random);
             unnumber(&mut records, random);
             join(&records)
         },
     ),
-    ("right, 131,073 records", Calls::Both, |random| {
+    ("right, 131,073 records", Calls::All, |random| {
         join(&of_records(MOST_RECORDS + 1, random))
     }),
     (
@@ -137,12 +145,12 @@ const BOUNDARIES: &[Boundary] = &[
         put(&mut records[0], 105, "003");
         join(&records)
     }),
-    ("right, 43,690 groups", Calls::Both, |random| {
+    ("right, 43,690 groups", Calls::Counted, |random| {
         join(&of_groups(random))
     }),
     (
         "43,690 groups, the first GRT and the last GRH wrong",
-        Calls::Structure,
+        Calls::Check,
         |random| {
             let mut records = of_groups(random);
             put(&mut records[3], 4, "00000");
@@ -150,12 +158,12 @@ const BOUNDARIES: &[Boundary] = &[
             join(&records)
         },
     ),
-    ("right, 131,067 details", Calls::Both, |random| {
+    ("right, 131,067 details", Calls::All, |random| {
         join(&of_details(random))
     }),
     (
         "131,067 details, the last wrong",
-        Calls::Structure,
+        Calls::Check,
         |random| {
             let mut records = of_details(random);
             put(&mut records[MOST_RECORDS - 3], 12, "00131066");
@@ -164,7 +172,7 @@ const BOUNDARIES: &[Boundary] = &[
     ),
     (
         "131,067 details, GRT records in sixteen bits",
-        Calls::Structure,
+        Calls::Check,
         |random| {
             let mut records = of_details(random);
             put(&mut records[MOST_RECORDS - 2], 17, "00065534");
@@ -173,7 +181,7 @@ const BOUNDARIES: &[Boundary] = &[
     ),
     (
         "right, 12,000 transactions in one group",
-        Calls::Both,
+        Calls::Counted,
         |random| {
             let mut types = vec![named("HDR"), named("GRH")];
             types.extend((0..12_000).map(|_| header(random)));
@@ -181,6 +189,22 @@ const BOUNDARIES: &[Boundary] = &[
             join(&write(&types, random))
         },
     ),
+    ("right, 131,072 records, no verdict for the last", Calls::Buffers(-1, 0), |random| {
+        join(&of_records(MOST_RECORDS, random))
+    }),
+    ("right, 131,072 records, findings one byte short", Calls::Buffers(1, -1), |random| {
+        join(&of_records(MOST_RECORDS, random))
+    }),
+    ("right, 131,072 records, buffers longer", Calls::Buffers(3, 5), |random| {
+        join(&of_records(MOST_RECORDS, random))
+    }),
+    ("92,000 writers at 99999", Calls::Check, |_| {
+        join(&of_writers(&[(92_000, 99_999)]))
+    }),
+    // 2^32 and 10000 together.
+    ("42,951 writers whose total is 10000 in 32 bits", Calls::Check, |_| {
+        join(&of_writers(&[(42_950, 99_999), (1, 20_246)]))
+    }),
 ];
 
 /// How many there are.
@@ -192,22 +216,35 @@ pub fn case(seed: u64) -> Option<Case> {
     let (kind, calls, file) = BOUNDARIES.get(usize::try_from(seed).ok()?)?;
     let mut random = Random::new(seed);
     let file = file(&mut random);
-    let (operations, length): (&[Operation], _) = match *calls {
-        Calls::Both => (&Operation::ALL, file.len()),
-        Calls::Structure => (&[Operation::Structure], 0),
-        Calls::Numbering(more) => {
-            let length = file.len().checked_add_signed(more);
-            (&[Operation::Numbering], length.expect("a length"))
-        }
-        Calls::Refused => (&Operation::ALL, 0),
+    use Call::{Check, Counted, Number, Structure, Within};
+    let asked: &[Call] = match calls {
+        Calls::All => &[Within, Number, Structure],
+        Calls::Both => &[Within, Number],
+        Calls::Counted => &[Within, Number, Structure, Counted],
+        Calls::Check => &[Within],
+        Calls::Buffers(..) => &[Check],
+        Calls::Number(_) => &[Number],
+        Calls::Refused => &[Check, Number],
     };
-    Some(Case {
-        seed,
-        kind: kind.to_string(),
-        out: random.pattern(length),
-        file,
-        operations,
-    })
+    let mut case = Case::new(seed, kind.to_string(), file, asked);
+    let mut longer = |buffer: &mut Vec<u8>, more: isize| {
+        let length = buffer.len().checked_add_signed(more).expect("a length");
+        *buffer = random.pattern(length);
+    };
+    match *calls {
+        Calls::Buffers(verdicts, findings) => {
+            longer(&mut case.verdicts, verdicts);
+            longer(&mut case.findings, findings);
+        }
+        Calls::Number(more) => longer(&mut case.out, more),
+        Calls::Refused => {
+            case.verdicts.clear();
+            case.findings.clear();
+            case.out.clear();
+        }
+        _ => {}
+    }
+    Some(case)
 }
 
 /// A right file of exactly this many bytes.
@@ -271,4 +308,16 @@ fn of_details(random: &mut Random) -> Vec<Vec<u8>> {
     types.extend([named("GRT"), named("TRL")]);
     assert_eq!(types.len(), MOST_RECORDS);
     write(&types, random)
+}
+
+/// One transaction of writers: so many with this share of each right.
+fn of_writers(shares: &[(usize, usize)]) -> Vec<Vec<u8>> {
+    let mut work = works::plain_work();
+    let writer = work.pop().expect("a writer");
+    for &(number, share) in shares {
+        let mut writer = writer.clone();
+        works::set_shares(&mut writer, [share; 3]);
+        work.extend(vec![writer; number]);
+    }
+    works::file("NWR", vec![work])
 }

@@ -2,22 +2,18 @@
 //! step, every number's byte, every byte value. Their seeds are their numbers
 //! here, counted from `FIRST`.
 
+mod judged;
+mod lending;
+
 use std::sync::OnceLock;
 
 use super::right::{blank, named, put, write};
-use super::{join, Case, Random};
-use crate::driver::Operation;
+use super::{join, works, Case, Random};
+use crate::calls::Call;
 use crate::reference::types::{Class, Type, TYPES};
 
 /// The seed of the first.
 pub const FIRST: u64 = 1 << 20;
-
-struct Each {
-    kind: String,
-    file: Vec<u8>,
-    /// The buffer is so many bytes longer than the file.
-    longer: isize,
-}
 
 /// How many there are.
 pub fn number() -> u64 {
@@ -25,21 +21,15 @@ pub fn number() -> u64 {
 }
 
 pub fn case(seed: u64) -> Option<Case> {
-    let each = all().get(usize::try_from(seed - FIRST).ok()?)?;
-    let length = each.file.len().checked_add_signed(each.longer);
-    Some(Case {
-        seed,
-        kind: each.kind.clone(),
-        file: each.file.clone(),
-        out: Random::new(seed).pattern(length.expect("a length")),
-        operations: &Operation::ALL,
-    })
+    all().get(usize::try_from(seed - FIRST).ok()?).cloned()
 }
 
-fn all() -> &'static [Each] {
-    static ALL: OnceLock<Vec<Each>> = OnceLock::new();
+fn all() -> &'static [Case] {
+    static ALL: OnceLock<Vec<Case>> = OnceLock::new();
     ALL.get_or_init(|| {
         let mut all = Vec::new();
+        judged::all(&mut all);
+        lending::all(&mut all);
         types(&mut all);
         steps(&mut all);
         numbers(&mut all);
@@ -51,9 +41,29 @@ fn all() -> &'static [Each] {
     })
 }
 
-fn add(all: &mut Vec<Each>, kind: String, file: Vec<u8>) {
-    let longer = 0;
-    all.push(Each { kind, file, longer });
+/// Adds a file; what else is lent can then be changed.
+fn add_with<'a>(
+    all: &'a mut Vec<Case>,
+    kind: String,
+    file: Vec<u8>,
+    calls: &[Call],
+) -> &'a mut Case {
+    let seed = FIRST + all.len() as u64;
+    all.push(Case::new(seed, kind, file, calls));
+    all.last_mut().expect("just added")
+}
+
+/// Adds a file about its structure.
+fn add(all: &mut Vec<Case>, kind: String, file: Vec<u8>) {
+    use Call::{Check, Number, Structure, Within};
+    // The two forms of the check, and the others, in turn.
+    let calls: &[Call] = match all.len() % 4 {
+        0 => &[Check, Number],
+        1 => &[Within, Structure],
+        2 => &[Within, Number],
+        _ => &[Check, Structure],
+    };
+    add_with(all, kind, file, calls);
 }
 
 /// Two groups, three transactions, three details.
@@ -70,7 +80,7 @@ fn records() -> Vec<Vec<u8>> {
 }
 
 /// Each type in its right length, one byte short and one byte long.
-fn types(all: &mut Vec<Each>) {
+fn types(all: &mut Vec<Case>) {
     for row in &TYPES {
         let mut rows = rows();
         let place = match row.class {
@@ -99,7 +109,7 @@ fn types(all: &mut Vec<Each>) {
 }
 
 /// Each class of record after each other, and the file's end after each.
-fn steps(all: &mut Vec<Each>) {
+fn steps(all: &mut Vec<Case>) {
     let ways: [&[&str]; 7] = [
         &[],
         &["HDR"],
@@ -123,7 +133,7 @@ fn steps(all: &mut Vec<Each>) {
 }
 
 /// Each byte of each number, another digit and a blank.
-fn numbers(all: &mut Vec<Each>) {
+fn numbers(all: &mut Vec<Case>) {
     let right = records();
     for (place, name) in NAMES.iter().enumerate() {
         let positions = match *name {
@@ -150,7 +160,7 @@ fn numbers(all: &mut Vec<Each>) {
 }
 
 /// Each byte of version and revision and their neighbours; many revisions.
-fn versions(all: &mut Vec<Each>) {
+fn versions(all: &mut Vec<Case>) {
     for position in 101..=108 {
         for byte in b" 0123.,A/\xff" {
             let mut records = records();
@@ -167,7 +177,7 @@ fn versions(all: &mut Vec<Each>) {
 }
 
 /// Each byte value in several positions.
-fn bytes(all: &mut Vec<Each>) {
+fn bytes(all: &mut Vec<Case>) {
     let right = records();
     for byte in 0..=255u8 {
         for (place, position) in [(3, 1), (3, 20), (6, 38), (11, 3)] {
@@ -198,25 +208,20 @@ fn bytes(all: &mut Vec<Each>) {
     }
 }
 
-/// Cut at the bytes around each line's start, and here and there.
-fn cuts(all: &mut Vec<Each>) {
-    let file = join(&records());
+/// Cut at every byte; the file of the scope, which is smaller.
+fn cuts(all: &mut Vec<Case>) {
+    let file = join(&works::file("NWR", vec![works::plain_work()]));
     for length in 0..file.len() {
-        let start = file[..length].windows(2).rposition(|w| w == b"\r\n");
-        let since = length - start.map_or(0, |at| at + 2);
-        let ahead = &file[length..file.len().min(length + 3)];
-        if since < 4 || ahead.contains(&b'\r') || ahead.contains(&b'\n') || length % 16 == 0 {
-            add(
-                all,
-                format!("each cut: {length} bytes"),
-                file[..length].to_vec(),
-            );
-        }
+        add(
+            all,
+            format!("each cut: {length} bytes"),
+            file[..length].to_vec(),
+        );
     }
 }
 
 /// A right and an unnumbered file with buffers of several lengths.
-fn buffers(all: &mut Vec<Each>) {
+fn buffers(all: &mut Vec<Case>) {
     let right = join(&records());
     let mut unnumbered = records();
     for record in &mut unnumbered[1..] {
@@ -247,11 +252,11 @@ fn buffers(all: &mut Vec<Each>) {
             3,
             length,
         ] {
-            all.push(Each {
-                kind: format!("each buffer: {name}, {longer:+} bytes"),
-                file: file.clone(),
-                longer,
-            });
+            let kind = format!("each buffer: {name}, {longer:+} bytes");
+            let calls = [Call::Number, Call::Counted];
+            let case = add_with(all, kind, file.clone(), &calls);
+            let length = file.len().checked_add_signed(longer);
+            case.out = Random::new(FIRST).pattern(length.expect("a length"));
         }
     }
 }

@@ -53,55 +53,63 @@ pub fn of_class(class: Class, random: &mut Random) -> &'static Type {
     random.of(&types)
 }
 
-/// Records of these types, each with the number it has by counting; right
-/// where the types stand in right places. The counting is not the
-/// reference's, so that the two can be held against each other.
+/// Records of these types with any text, each with the number it has by
+/// counting; right where the types stand in right places.
 pub fn write(types: &[&'static Type], random: &mut Random) -> Vec<Vec<u8>> {
-    let mut records = Vec::with_capacity(types.len());
+    let mut records: Vec<_> = types.iter().map(|row| blank(row, random)).collect();
+    for record in records.iter_mut().filter(|record| record.starts_with(b"HDR")) {
+        let revision = random.of(&["000", "001", "002"]);
+        put(record, 102, "2.2");
+        put(record, 105, revision);
+    }
+    number(&mut records);
+    records
+}
+
+/// Numbers records by counting. The counting is not the reference's, so that
+/// the two can be held against each other.
+pub fn number(records: &mut [Vec<u8>]) {
     let (mut group, mut group_begin) = (0, 0);
     let (mut transactions, mut before_group) = (0, 0);
     let mut header_at = 0;
-    for (at, row) in types.iter().enumerate() {
-        let mut record = blank(row, random);
-        match row.class {
-            Class::Hdr => {
-                let revision = random.of(&["000", "001", "002"]);
-                put(&mut record, 102, "2.2");
-                put(&mut record, 105, revision);
-            }
+    for (at, record) in records.iter_mut().enumerate() {
+        let class = find(record).expect("a known type").class;
+        match class {
+            Class::Hdr => {}
             Class::Grh => {
                 group += 1;
                 group_begin = at;
                 before_group = transactions;
-                put(&mut record, 7, &format!("{group:05}"));
+                put(record, 7, &format!("{group:05}"));
             }
             Class::Header | Class::Detail => {
-                if row.class == Class::Header {
+                if class == Class::Header {
                     transactions += 1;
                     header_at = at;
                 }
                 let transaction = (transactions - before_group).max(1) - 1;
-                put(&mut record, 4, &format!("{transaction:08}"));
-                put(&mut record, 12, &format!("{:08}", at - header_at));
+                put(record, 4, &format!("{transaction:08}"));
+                put(record, 12, &format!("{:08}", at - header_at));
             }
             Class::Grt => {
-                put(&mut record, 4, &format!("{group:05}"));
-                put(
-                    &mut record,
-                    9,
-                    &format!("{:08}", transactions - before_group),
-                );
-                put(&mut record, 17, &format!("{:08}", at + 1 - group_begin));
+                put(record, 4, &format!("{group:05}"));
+                put(record, 9, &format!("{:08}", transactions - before_group));
+                put(record, 17, &format!("{:08}", at + 1 - group_begin));
             }
             Class::Trl => {
-                put(&mut record, 4, &format!("{group:05}"));
-                put(&mut record, 9, &format!("{transactions:08}"));
-                put(&mut record, 17, &format!("{:08}", at + 1));
+                put(record, 4, &format!("{group:05}"));
+                put(record, 9, &format!("{transactions:08}"));
+                put(record, 17, &format!("{:08}", at + 1));
             }
         }
-        records.push(record);
     }
-    records
+}
+
+/// A record of a type with blanks in its fields.
+pub fn plain(row: &Type) -> Vec<u8> {
+    let mut record = vec![b' '; row.length()];
+    record[..3].copy_from_slice(row.name.as_bytes());
+    record
 }
 
 /// A record of a type with any text in its fields.

@@ -1,0 +1,301 @@
+//! The calls that are compared, as requests to a driver and its replies.
+//!
+//! All numbers little-endian. Every request has the same form: letter of the
+//! call, guard (a byte), a u64 (the tolerance, or a set of findings), the u32
+//! lengths of four lent parts (file, languages, societies, categories) and of
+//! two buffers, then the parts and the buffers as they are before the call.
+//! What a call doesn't take has length 0. Reply: three u64, a byte that is 1
+//! where a lent part was changed, and the buffers as they are after the call.
+
+use std::io::{self, Read, Write};
+
+use crate::reference::{self, findings, Answer, Tables};
+
+#[derive(Clone, Copy, Debug, PartialEq, Eq, PartialOrd, Ord)]
+pub enum Call {
+    /// The check in its short form.
+    Check,
+    /// The check with a tolerance.
+    Within,
+    /// Numbering.
+    Number,
+    /// Number and lowest of a set of findings.
+    Bits,
+    /// Refusals 3 to 10 alone, with the numbers of groups and transactions.
+    Structure,
+    /// Numbering, with the numbers of groups and transactions.
+    Counted,
+    /// The listing program.
+    Listing,
+}
+
+/// Who answers a call.
+#[derive(Clone, Copy, Debug, PartialEq, Eq)]
+pub enum Program {
+    Driver,
+    Probe,
+    Listing,
+}
+
+impl Call {
+    pub const ALL: [Call; 7] = [
+        Call::Check,
+        Call::Within,
+        Call::Number,
+        Call::Bits,
+        Call::Structure,
+        Call::Counted,
+        Call::Listing,
+    ];
+
+    pub fn name(self) -> &'static str {
+        match self {
+            Call::Check => "check",
+            Call::Within => "within",
+            Call::Number => "number",
+            Call::Bits => "bits",
+            Call::Structure => "structure",
+            Call::Counted => "counted",
+            Call::Listing => "listing",
+        }
+    }
+
+    pub fn program(self) -> Program {
+        match self {
+            Call::Check | Call::Within | Call::Number | Call::Bits => Program::Driver,
+            Call::Structure | Call::Counted => Program::Probe,
+            Call::Listing => Program::Listing,
+        }
+    }
+
+    /// Each its first letter, and the listing is no request.
+    fn letter(self) -> u8 {
+        match self {
+            Call::Check => b'c',
+            Call::Within => b'w',
+            Call::Number => b'n',
+            Call::Bits => b'b',
+            Call::Structure => b's',
+            Call::Counted => b'k',
+            Call::Listing => b'l',
+        }
+    }
+
+    fn of_letter(letter: u8) -> Option<Call> {
+        Call::ALL.into_iter().find(|call| call.letter() == letter)
+    }
+
+    /// Whether it judges records.
+    pub fn is_check(self) -> bool {
+        matches!(self, Call::Check | Call::Within)
+    }
+}
+
+/// Where a driver puts what it lends.
+#[derive(Clone, Copy, Debug, Default, PartialEq, Eq)]
+pub enum Guard {
+    /// Anywhere.
+    #[default]
+    None,
+    /// The end of each part and buffer lies directly before a page that can
+    /// neither be read nor written.
+    After,
+    /// The begin lies directly behind such a page.
+    Before,
+}
+
+impl Guard {
+    const ALL: [Guard; 3] = [Guard::None, Guard::After, Guard::Before];
+}
+
+/// What is asked.
+#[derive(Clone, Debug)]
+pub struct Request {
+    pub call: Call,
+    pub guard: Guard,
+    /// The tolerance, or the set.
+    pub number: u64,
+    pub file: Vec<u8>,
+    /// Languages, societies, categories.
+    pub tables: [Vec<u8>; 3],
+    /// Verdicts and findings, or the output of numbering and nothing.
+    pub buffers: [Vec<u8>; 2],
+}
+
+impl Request {
+    pub fn tables(&self) -> Tables<'_> {
+        let [languages, societies, categories] = &self.tables;
+        Tables {
+            languages,
+            societies,
+            categories,
+        }
+    }
+
+    /// The bytes that are sent.
+    pub fn bytes(&self) -> Vec<u8> {
+        let [languages, societies, categories] = &self.tables;
+        let [first, second] = &self.buffers;
+        let parts = [&self.file, languages, societies, categories, first, second];
+        let mut bytes = vec![self.call.letter(), self.guard as u8];
+        bytes.extend_from_slice(&self.number.to_le_bytes());
+        for part in parts {
+            bytes.extend_from_slice(&(part.len() as u32).to_le_bytes());
+        }
+        for part in parts {
+            bytes.extend_from_slice(part);
+        }
+        bytes
+    }
+
+    /// How long the reply is.
+    pub fn reply_length(&self) -> usize {
+        25 + self.buffers[0].len() + self.buffers[1].len()
+    }
+}
+
+/// Reads a request; none at the end of the input.
+pub fn read_request(input: &mut impl Read) -> io::Result<Option<Request>> {
+    let wrong = || io::Error::new(io::ErrorKind::InvalidData, "unknown request");
+    let mut letter = [0];
+    if input.read(&mut letter)? == 0 {
+        return Ok(None);
+    }
+    let mut head = [0; 33];
+    input.read_exact(&mut head)?;
+    let mut part = |which: usize| {
+        let length = &head[9 + 4 * which..13 + 4 * which];
+        let length = u32::from_le_bytes(length.try_into().expect("four bytes"));
+        let mut bytes = vec![0; length as usize];
+        input.read_exact(&mut bytes).map(|()| bytes)
+    };
+    Ok(Some(Request {
+        call: Call::of_letter(letter[0]).ok_or_else(wrong)?,
+        guard: *Guard::ALL.get(usize::from(head[0])).ok_or_else(wrong)?,
+        number: u64::from_le_bytes(head[1..9].try_into().expect("eight bytes")),
+        file: part(0)?,
+        tables: [part(1)?, part(2)?, part(3)?],
+        buffers: [part(4)?, part(5)?],
+    }))
+}
+
+/// What is answered to a request.
+#[derive(Clone, Debug, PartialEq, Eq)]
+pub struct Reply {
+    /// The packed answer; for `bits` the number of findings.
+    pub packed: u64,
+    /// Groups and transactions, 0 where refused or not asked for; for `bits`
+    /// the lowest finding and 0.
+    pub others: [u64; 2],
+    /// Whether a part that was lent for reading is another than before.
+    pub changed: bool,
+    /// The buffers after the call.
+    pub buffers: [Vec<u8>; 2],
+}
+
+impl Reply {
+    pub fn new(answer: Answer, counted: bool, buffers: [Vec<u8>; 2]) -> Reply {
+        let others = match answer {
+            Answer::Passed {
+                groups,
+                transactions,
+                ..
+            } if counted => [groups, transactions],
+            _ => [0; 2],
+        };
+        Reply {
+            packed: answer.packed(),
+            others,
+            changed: false,
+            buffers,
+        }
+    }
+
+    /// Number of the refusal; 0 where passed.
+    pub fn refusal(&self) -> u64 {
+        self.packed >> 32
+    }
+
+    /// A record's findings, in the answer to a check.
+    pub fn set(&self, record: usize) -> u64 {
+        let bytes = &self.buffers[1][8 * record..8 * record + 8];
+        u64::from_le_bytes(bytes.try_into().expect("eight bytes"))
+    }
+
+    pub fn bytes(&self) -> Vec<u8> {
+        let mut bytes = Vec::with_capacity(25 + self.buffers[0].len() + self.buffers[1].len());
+        for number in [self.packed, self.others[0], self.others[1]] {
+            bytes.extend_from_slice(&number.to_le_bytes());
+        }
+        bytes.push(u8::from(self.changed));
+        bytes.extend_from_slice(&self.buffers[0]);
+        bytes.extend_from_slice(&self.buffers[1]);
+        bytes
+    }
+
+    /// The reply of these bytes to a request.
+    pub fn of_bytes(bytes: &[u8], request: &Request) -> Reply {
+        let number = |at: usize| u64::from_le_bytes(bytes[at..at + 8].try_into().unwrap());
+        let (first, second) = bytes[25..].split_at(request.buffers[0].len());
+        Reply {
+            packed: number(0),
+            others: [number(8), number(16)],
+            changed: bytes[24] != 0,
+            buffers: [first.to_vec(), second.to_vec()],
+        }
+    }
+
+    pub fn describe(&self, call: Call) -> String {
+        let [first, second] = self.others;
+        let mut text = match (call, self.refusal()) {
+            (Call::Bits, _) => format!("{} findings, lowest {first}", self.packed),
+            (Call::Structure | Call::Counted, 0) => format!(
+                "passed: {first} groups, {second} transactions, {} records",
+                self.packed
+            ),
+            (_, 0) => format!("passed: {} records", self.packed),
+            (_, number) => {
+                let place = self.packed & 0xffff_ffff;
+                let mut text = format!("refused {number} at {place}");
+                if self.others != [0; 2] {
+                    text += &format!(", yet {first} groups, {second} transactions");
+                }
+                text
+            }
+        };
+        if self.changed {
+            text += ", and what was lent for reading is changed";
+        }
+        text
+    }
+}
+
+pub fn write_reply(output: &mut impl Write, reply: &Reply) -> io::Result<()> {
+    output.write_all(&reply.bytes())?;
+    output.flush()
+}
+
+/// What the reference answers to a request.
+pub fn expected(request: &Request) -> Reply {
+    let [mut first, mut second] = request.buffers.clone();
+    let (file, tables) = (&request.file, request.tables());
+    let answer = match request.call {
+        Call::Check => reference::check_short(file, &tables, &mut first, &mut second),
+        Call::Within => {
+            reference::check(request.number, file, &tables, &mut first, &mut second)
+        }
+        Call::Number | Call::Counted => reference::numbering(file, &mut first),
+        Call::Structure => reference::structure(file),
+        Call::Bits => {
+            return Reply {
+                packed: u64::from(findings::count(request.number)),
+                others: [u64::from(findings::lowest(request.number)), 0],
+                changed: false,
+                buffers: [first, second],
+            }
+        }
+        Call::Listing => unreachable!("the listing is no request"),
+    };
+    let counted = request.call.program() == Program::Probe;
+    Reply::new(answer, counted, [first, second])
+}

@@ -1,0 +1,129 @@
+//! A difference, told such that it can be looked into.
+
+use std::fmt::Write;
+
+use tests::calls::{Call, Guard, Reply, Request};
+use tests::generate::Case;
+
+/// What all differences tell: the call, the file and how to have it again.
+pub fn head(case: &Case, call: Call, guard: Guard) -> String {
+    let mut text = String::from("difference\n");
+    let mut add = |name: &str, value: &str| {
+        let _ = writeln!(text, "  {name:10} {value}");
+    };
+    add("call", call.name());
+    add("kind", &case.kind);
+    add("seed", &case.seed.to_string());
+    if guard != Guard::None {
+        add("guard", &format!("{guard:?}").to_lowercase());
+    }
+    let path = std::env::temp_dir().join(format!("difference-{}.cwr", case.seed));
+    match std::fs::write(&path, &case.file) {
+        Ok(()) => add("file", &path.display().to_string()),
+        Err(error) => add("file", &format!("not written: {error}")),
+    }
+    add("bytes", &case.file.len().to_string());
+    text
+}
+
+/// Of two replies, or of a reply and no reply.
+pub fn of_replies(
+    case: &Case,
+    request: &Request,
+    reference: &Reply,
+    library: &Result<Reply, String>,
+) -> String {
+    let call = request.call;
+    let mut text = head(case, call, request.guard);
+    let mut add = |name: &str, value: &str| {
+        let _ = writeln!(text, "  {name:10} {value}");
+    };
+    match call {
+        Call::Bits => add("set", &format!("{:#x}", request.number)),
+        Call::Check | Call::Within => {
+            if call == Call::Within {
+                add("tolerance", &request.number.to_string());
+            }
+            for (name, table) in ["languages", "societies", "categories"].iter().zip(&request.tables) {
+                add(name, &format!("{} bytes", table.len()));
+            }
+        }
+        _ => {}
+    }
+    for (name, buffer) in ["buffer", "second"].iter().zip(&request.buffers) {
+        if !buffer.is_empty() {
+            add(name, &format!("{} bytes", buffer.len()));
+        }
+    }
+    add("reference", &reference.describe(call));
+    let library = match library {
+        Err(how) => {
+            add("library", how);
+            return text;
+        }
+        Ok(library) => library,
+    };
+    add("library", &library.describe(call));
+    if call.is_check() && reference.packed == library.packed && reference.refusal() == 0 {
+        if let Some((name, words)) = of_records(request, reference, library) {
+            add(&name, &words);
+        }
+    }
+    for (name, which) in [("buffer", 0), ("second", 1)] {
+        let (one, other) = (&reference.buffers[which], &library.buffers[which]);
+        let differing: Vec<usize> = (0..one.len()).filter(|&at| one[at] != other[at]).collect();
+        if let Some(&first) = differing.first() {
+            let words = format!(
+                "{} bytes differ, the first at {first}: {} before, reference {}, library {}",
+                differing.len(),
+                request.buffers[which][first],
+                one[first],
+                other[first],
+            );
+            add(name, &words);
+        }
+    }
+    text
+}
+
+/// The first record that is judged otherwise.
+fn of_records(request: &Request, reference: &Reply, library: &Reply) -> Option<(String, String)> {
+    let records = reference.packed as usize;
+    let judged = |reply: &Reply, record: usize| (reply.buffers[0][record], reply.set(record));
+    let record = (0..records).find(|&record| judged(reference, record) != judged(library, record))?;
+    let line = request.file.split(|&byte| byte == b'\n').nth(record).unwrap_or(&[]);
+    let kind = String::from_utf8_lossy(&line[..line.len().min(3)]).into_owned();
+    let words = |reply: &Reply| {
+        let (verdict, set) = judged(reply, record);
+        let findings: Vec<_> = (0..64).filter(|n| set >> n & 1 == 1).collect();
+        format!("verdict {verdict}, findings {findings:?}")
+    };
+    let words = format!("{kind}: reference {}; library {}", words(reference), words(library));
+    Some((format!("record {record}"), words))
+}
+
+/// Of two listings.
+pub fn of_listings(case: &Case, reference: &[u8], library: &Result<Vec<u8>, String>) -> String {
+    let mut text = head(case, Call::Listing, Guard::None);
+    let library = match library {
+        Err(how) => {
+            let _ = writeln!(text, "  library    {how}");
+            return text;
+        }
+        Ok(library) => library,
+    };
+    let mut lines = [reference, library].map(|listing| listing.split_inclusive(|&byte| byte == b'\n'));
+    for number in 0.. {
+        let [one, other] = lines.each_mut().map(|lines| lines.next());
+        if one != other || one.is_none() {
+            let show = |line: Option<&[u8]>| match line {
+                Some(line) => format!("{:?}", String::from_utf8_lossy(line)),
+                None => "nothing".to_string(),
+            };
+            let _ = writeln!(text, "  reference  line {number}: {}", show(one));
+            let _ = writeln!(text, "  library    line {number}: {}", show(other));
+            break;
+        }
+    }
+    text
+}

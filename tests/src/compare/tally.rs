@@ -1,0 +1,149 @@
+//! How often each answer, finding and verdict came up.
+
+use std::collections::BTreeMap;
+
+use tests::calls::{Call, Reply, Request};
+
+use crate::options::Options;
+
+/// An answer of a call: a refusal, 0 for passed, or too long for the listing.
+pub const TOO_LONG: u64 = 99;
+
+const FINDINGS: usize = 47;
+
+#[derive(Default)]
+pub struct Tally {
+    answers: BTreeMap<(Call, u64), u64>,
+    /// For each finding: records that have it, files in which one has it, and
+    /// files in which it is the only one.
+    findings: Vec<[u64; 3]>,
+    /// Records with each verdict.
+    verdicts: [u64; 5],
+    /// Files that were compared.
+    pub files: u64,
+}
+
+impl Tally {
+    pub fn new() -> Tally {
+        Tally {
+            findings: vec![[0; 3]; FINDINGS],
+            ..Tally::default()
+        }
+    }
+
+    pub fn answer(&mut self, call: Call, answer: u64) {
+        *self.answers.entry((call, answer)).or_default() += 1;
+    }
+
+    /// Counts what the reference answers.
+    pub fn reply(&mut self, request: &Request, reply: &Reply) {
+        let call = request.call;
+        if call == Call::Bits {
+            return self.answer(call, 0);
+        }
+        self.answer(call, reply.refusal());
+        if !call.is_check() || reply.refusal() != 0 {
+            return;
+        }
+        let mut in_file = 0;
+        for record in 0..reply.packed as usize {
+            let set = reply.set(record);
+            in_file |= set;
+            self.verdicts[usize::from(reply.buffers[0][record])] += 1;
+            for (finding, counts) in self.findings.iter_mut().enumerate() {
+                counts[0] += set >> finding & 1;
+            }
+        }
+        for (finding, counts) in self.findings.iter_mut().enumerate() {
+            counts[1] += in_file >> finding & 1;
+            counts[2] += u64::from(in_file == 1 << finding);
+        }
+    }
+
+    pub fn add(&mut self, other: &Tally) {
+        for (&key, number) in &other.answers {
+            *self.answers.entry(key).or_default() += number;
+        }
+        for (mine, others) in self.findings.iter_mut().zip(&other.findings) {
+            for (count, more) in mine.iter_mut().zip(others) {
+                *count += more;
+            }
+        }
+        for (count, more) in self.verdicts.iter_mut().zip(other.verdicts) {
+            *count += more;
+        }
+        self.files += other.files;
+    }
+
+    /// Prints the numbers; false where one is less than it should be.
+    pub fn show(&self, options: &Options) -> bool {
+        let mut enough = true;
+        let mut line = |words: &str, numbers: &[u64], least: u64| {
+            let least = if options.with_least() { least } else { 0 };
+            let numbers_text: String = numbers.iter().map(|n| format!(" {n:8}")).collect();
+            let seldom = numbers[0] < least;
+            if numbers[0] > 0 || seldom {
+                let note = if seldom { "  too seldom" } else { "" };
+                println!("{words:21}{numbers_text} {least:9}{note}");
+            }
+            enough &= !seldom;
+        };
+        println!("call      answer          files  at least");
+        for call in Call::ALL {
+            if !options.asked(call) {
+                continue;
+            }
+            // Refusals in their order, then passed.
+            for answer in (1..=11).chain([TOO_LONG, 0]) {
+                let number = self.answers.get(&(call, answer)).copied().unwrap_or(0);
+                let words = match answer {
+                    0 => "passed".to_string(),
+                    TOO_LONG => "too long".to_string(),
+                    refusal => format!("refused {refusal}"),
+                };
+                let words = format!("{:9} {words}", call.name());
+                line(&words, &[number], least_answer(call, answer));
+            }
+        }
+        if !options.asked(Call::Check) && !options.asked(Call::Within) {
+            return enough;
+        }
+        let both = options.asked(Call::Check) && options.asked(Call::Within);
+        let least = |number: u64| if both { number } else { 0 };
+        println!("\nfinding                files    alone  records  at least");
+        for (finding, &[records, files, alone]) in self.findings.iter().enumerate() {
+            line(&finding.to_string(), &[files, alone, records], least(250));
+        }
+        println!("\nverdict              records  at least");
+        for (verdict, &records) in self.verdicts.iter().enumerate() {
+            line(&verdict.to_string(), &[records], least(500));
+        }
+        println!();
+        enough
+    }
+}
+
+/// How many files must have had an answer in a default run.
+fn least_answer(call: Call, answer: u64) -> u64 {
+    match (call, answer) {
+        (Call::Listing, 0) => 50,
+        (Call::Listing, 4 | 6 | 7) => 5,
+        (Call::Listing, 8..=10) => 1,
+        (Call::Listing, TOO_LONG) => 3,
+        (Call::Listing, _) => 0,
+        (Call::Bits, 0) => 500,
+        (Call::Bits, _) | (_, TOO_LONG) => 0,
+        (Call::Within, 1) => 200,
+        (_, 1) => 0,
+        (Call::Check | Call::Within, 2) => 200,
+        (_, 2) => 0,
+        (Call::Within, 3 | 5) | (Call::Number, 3 | 5) => 1,
+        (_, 3 | 5) => 0,
+        (Call::Counted, 0 | 4 | 6 | 7 | 10 | 11) => 50,
+        (_, 0 | 4 | 6 | 7) => 300,
+        (Call::Check | Call::Within | Call::Structure, 8 | 9 | 10) => 200,
+        (Call::Check | Call::Within, 11) => 200,
+        (Call::Number, 10 | 11) => 200,
+        _ => 0,
+    }
+}

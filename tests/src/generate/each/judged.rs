@@ -1,0 +1,464 @@
+//! Works that go through the values of each finding and the limits of each
+//! value, several in a file.
+
+use super::add_with;
+use crate::calls::Call;
+use crate::generate::right::{number, put, put_bytes};
+use crate::generate::values::{
+    fields, DATES, DESIGNATIONS, DURATIONS, INDICATORS, NO_DESIGNATIONS, NO_PUBLISHER_TYPES,
+    PUBLISHER_TYPES, SEQUENCES, SHARES, TAXES,
+};
+use crate::generate::works::{
+    file, of, plain_work, publisher, set_shares, share_start, writer, Records,
+};
+use crate::generate::{join, Case};
+use crate::reference::types::{Class, TYPES};
+
+pub fn all(all: &mut Vec<Case>) {
+    header_fields(all);
+    edges(all);
+    shares(all);
+    totals(all);
+    wrapped(all);
+    designations(all);
+    publisher_types(all);
+    indicators(all);
+    sequences(all);
+    chains(all);
+    recordings(all);
+    titles(all);
+    orders(all);
+    leaders(all);
+    groups(all);
+}
+
+/// Adds files of works, so many in each; with this tolerance.
+fn add(all: &mut Vec<Case>, kind: &str, tolerance: u64, works: Vec<Records>) {
+    for (part, works) in works.chunks(16).enumerate() {
+        let records = file("NWR", works.to_vec());
+        // The listing program for some.
+        let calls: &[Call] = match (tolerance, all.len() % 5) {
+            (6, 0) => &[Call::Check, Call::Listing],
+            (6, 1..=3) => &[Call::Check],
+            _ => &[Call::Within],
+        };
+        let kind = format!("each {kind}, tolerance {tolerance}, part {part}");
+        add_with(all, kind, join(&records), calls).tolerance = tolerance;
+    }
+}
+
+/// The plain work with a text on its header.
+fn headed(start: usize, text: &str) -> Records {
+    let mut work = plain_work();
+    put(&mut work[0], start, text);
+    work
+}
+
+fn header_fields(all: &mut Vec<Case>) {
+    let mut works = Vec::new();
+    for date in DATES {
+        works.push(headed(107, date));
+    }
+    for (year, leap) in [(2023, 28), (2024, 29), (1900, 28), (2000, 29)] {
+        for month in 1..=12 {
+            for day in [1, leap, 29, 30, 31, 32] {
+                works.push(headed(107, &format!("{year}{month:02}{day:02}")));
+            }
+        }
+    }
+    add(all, "date", 6, works);
+
+    let mut works = Vec::new();
+    for duration in DURATIONS {
+        for category in ["POP", "SER", "ser", "   ", "XXX"] {
+            for with in ["", "INS", "IND"] {
+                let mut work = headed(127, &format!("{category}{duration}"));
+                if !with.is_empty() {
+                    work.push(of(with, &[]));
+                }
+                works.push(work);
+            }
+        }
+    }
+    add(all, "duration", 6, works);
+
+    let mut works = Vec::new();
+    for base in ["T0345246801", "T0030749586", "T0000000009", "T9999999994"] {
+        for at in 0..11 {
+            for byte in b"0123456789TtX ./:" {
+                let mut work = headed(96, base);
+                work[0][95 + at] = *byte;
+                works.push(work);
+            }
+        }
+    }
+    add(all, "ISWC", 6, works);
+
+    let mut works = Vec::new();
+    for code in ["EN", "FR", "DE", "NF", "RD", "E ", " E", "  ", "en", "XX", "E\u{7f}"] {
+        works.push(headed(80, code));
+    }
+    for code in ["POP", "JAZ", "SER", "OPJ", "PJA", "   ", "PO ", "pop", "XXX"] {
+        works.push(headed(127, code));
+    }
+    add(all, "code", 6, works);
+}
+
+/// Each field blank between entered neighbours, then entered in its first and
+/// its last byte alone.
+fn edges(all: &mut Vec<Case>) {
+    for name in ["NWR", "SPU", "OPU", "SWR", "OWR", "EWT", "VER", "PER", "REC"] {
+        let mut works = Vec::new();
+        for &(start, size, _) in fields(name.as_bytes()) {
+            for form in 0..4 {
+                let mut work = plain_work();
+                let record = match name {
+                    "NWR" => &mut work[0],
+                    "SWR" => &mut work[1],
+                    "SPU" | "OPU" => {
+                        work.insert(1, publisher(name, "E ", [0; 3]));
+                        &mut work[1]
+                    }
+                    "OWR" => {
+                        work.push(writer(name, "C ", [0; 3]));
+                        &mut work[2]
+                    }
+                    _ => {
+                        work.push(of(name, &[]));
+                        &mut work[2]
+                    }
+                };
+                put_bytes(record, start, &vec![b' '; size]);
+                let filled = match form {
+                    0 => start - 1,
+                    1 => start + size,
+                    2 => start,
+                    _ => start + size - 1,
+                };
+                // Not into the number before the first field.
+                if filled >= 20 {
+                    put(record, filled, "X");
+                }
+                works.push(work);
+            }
+        }
+        add(all, &format!("edge of {name}"), 6, works);
+    }
+}
+
+/// Each value in each share field.
+fn shares(all: &mut Vec<Case>) {
+    for name in ["SPU", "OPU", "SWR", "OWR"] {
+        let mut works = Vec::new();
+        for share in SHARES {
+            for right in 0..3 {
+                let mut work = plain_work();
+                let record = match name {
+                    "SPU" | "OPU" => publisher(name, "E ", [0; 3]),
+                    _ => writer(name, "C ", [0; 3]),
+                };
+                work.insert(1, record);
+                set_shares(&mut work[2], [0; 3]);
+                let start = share_start(&work[1], right).expect("a share");
+                put(&mut work[1], start, share);
+                works.push(work);
+            }
+        }
+        add(all, &format!("share of {name}"), 6, works);
+    }
+}
+
+/// Totals at each limit and one off it: of publishers, of writers, of all.
+fn totals(all: &mut Vec<Case>) {
+    for tolerance in 0..=6 {
+        let mut works = Vec::new();
+        let t = tolerance as isize;
+        for right in 0..3 {
+            for near in [0, 5000, 10_000] {
+                for off in [-t - 1, -t, -1, 0, 1, t, t + 1] {
+                    let one = (near + off).max(0) as usize;
+                    let rest = 10_000usize.saturating_sub(one);
+                    let pair = |of_publisher: usize, of_writer: usize| {
+                        let mut work = plain_work();
+                        let mut shares = [0; 3];
+                        shares[right] = of_writer;
+                        set_shares(&mut work[1], shares);
+                        shares[right] = of_publisher;
+                        work.insert(1, publisher("SPU", "E ", shares));
+                        work
+                    };
+                    works.push(pair(one, rest));
+                    works.push(pair(rest, one));
+                    works.push(pair(0, one));
+                    works.push(pair(5000, (one + 5000).saturating_sub(near as usize)));
+                }
+            }
+        }
+        add(all, "total", tolerance, works);
+    }
+}
+
+/// Totals that are right once they are cut to fewer bits.
+fn wrapped(all: &mut Vec<Case>) {
+    let mut works = Vec::new();
+    for right in 0..3 {
+        for name in ["SWR", "OPU", "SPU"] {
+            // Seven at 10000 and one at 5536; others for 2^8 and 2^17.
+            for last in [5536, 5535, 5537, 1072 + 65_536, 256, 512] {
+                let mut work = plain_work();
+                set_shares(&mut work[1], [0; 3]);
+                for place in 0..8 {
+                    let mut shares = [0; 3];
+                    shares[right] = if place < 7 { 10_000 } else { last };
+                    let record = match name {
+                        "SWR" => writer("SWR", "C ", shares),
+                        _ => publisher(name, "E ", shares),
+                    };
+                    let at = if name == "SWR" { work.len() } else { 1 };
+                    work.insert(at, record);
+                }
+                works.push(work);
+            }
+        }
+    }
+    add(all, "wrapped total", 6, works);
+}
+
+fn designations(all: &mut Vec<Case>) {
+    let mut works = Vec::new();
+    for designation in DESIGNATIONS.iter().chain(&NO_DESIGNATIONS) {
+        for version in ["MOD", "ORI", "   "] {
+            for relationship in ["MUS", "MTX"] {
+                for name in ["SWR", "OWR"] {
+                    let mut work = headed(137, relationship);
+                    put(&mut work[0], 143, version);
+                    work[1] = writer(name, designation, [10_000; 3]);
+                    works.push(work.clone());
+                    // With a second writer.
+                    work.push(writer("OWR", "C ", [0; 3]));
+                    works.push(work);
+                }
+            }
+        }
+    }
+    add(all, "designation", 6, works);
+    let mut without = plain_work();
+    without.pop();
+    let mut modified = without.clone();
+    put(&mut modified[0], 143, "MOD");
+    add(all, "work without writers", 6, vec![without, modified]);
+}
+
+/// Each type first in its chain and after others, with a share and without.
+fn publisher_types(all: &mut Vec<Case>) {
+    for name in ["SPU", "OPU"] {
+        for share in [0, 1] {
+            let mut works = Vec::new();
+            for kind in PUBLISHER_TYPES.iter().chain(&NO_PUBLISHER_TYPES) {
+                for before in ["", "SPU E ", "OPU E ", "OPU   ", "SPU AQ", "SPU XX"] {
+                    for earlier in [0, 1] {
+                        let mut work = plain_work();
+                        work.insert(1, publisher(name, kind, [0, share, 0]));
+                        if !before.is_empty() {
+                            let (name, kind) = before.split_at(4);
+                            let shares = [earlier, 0, 0];
+                            work.insert(1, publisher(name.trim(), kind, shares));
+                        }
+                        works.push(work);
+                    }
+                }
+            }
+            add(all, &format!("publisher type of {name}, share {share}"), 6, works);
+        }
+    }
+}
+
+fn indicators(all: &mut Vec<Case>) {
+    let mut works = Vec::new();
+    for name in ["SPU", "OPU"] {
+        for title in ["B", " "] {
+            for indicator in INDICATORS {
+                let mut work = plain_work();
+                work.insert(1, publisher(name, "E ", [0, 0, 1]));
+                put(&mut work[1], 31, title);
+                put(&mut work[1], 76, indicator);
+                works.push(work);
+            }
+        }
+        for tax in TAXES {
+            let mut work = plain_work();
+            work.insert(1, publisher(name, "E ", [0, 0, 1]));
+            put(&mut work[1], 79, tax);
+            works.push(work);
+        }
+        for start in [113, 121, 129] {
+            for society in ["035", "044", "058", "350", "503", "   ", "35 ", " 35", "999"] {
+                let mut work = plain_work();
+                work.insert(1, publisher(name, "E ", [0, 0, 1]));
+                put(&mut work[1], start, society);
+                works.push(work);
+            }
+        }
+    }
+    add(all, "indicator, tax number and society", 6, works);
+}
+
+/// A work of publishers: name, sequence number, type and MR share.
+fn chain(publishers: &[(&str, &str, &str, usize)]) -> Records {
+    let mut work = plain_work();
+    for &(name, sequence, kind, share) in publishers.iter().rev() {
+        let mut record = publisher(name, kind, [0, share, 0]);
+        put(&mut record, 20, sequence);
+        work.insert(1, record);
+    }
+    work
+}
+
+fn sequences(all: &mut Vec<Case>) {
+    let mut works = Vec::new();
+    for one in SEQUENCES {
+        for other in SEQUENCES {
+            works.push(chain(&[("SPU", one, "E ", 1), ("OPU", other, "E ", 1)]));
+        }
+    }
+    add(all, "sequence", 6, works);
+    // All numbers in a row, and past the last.
+    let mut texts: Vec<_> = (1..=99).map(|number| format!("{number:02}")).collect();
+    texts.extend(["99", "00", "01", "0A", "01", "02"].map(String::from));
+    let row: Vec<_> = texts.iter().map(|text| ("SPU", text.as_str(), "E ", 1)).collect();
+    add(all, "sequence in a row", 6, vec![chain(&row)]);
+}
+
+/// Chains by their number, together or not.
+fn chains(all: &mut Vec<Case>) {
+    let mut works = Vec::new();
+    let forms = ["SPU E ", "SPU AQ", "SPU AM", "SPU XX", "OPU E ", "OPU   ", "OPU AM", "OPU AQ"];
+    for first in forms {
+        for second in forms {
+            for (numbers, shares) in [
+                (["01", "01"], [1, 0]),
+                (["01", "01"], [0, 1]),
+                (["01", "02"], [1, 1]),
+                (["00", "00"], [1, 1]),
+                (["99", "99"], [0, 0]),
+                (["0A", "0A"], [1, 1]),
+            ] {
+                let part = |form: &'static str| (&form[..3], &form[4..]);
+                let ((one, kind), (other, other_kind)) = (part(first), part(second));
+                // Something of another chain between them.
+                works.push(chain(&[
+                    (one, numbers[0], kind, shares[0]),
+                    ("SPU", "50", "E ", 1),
+                    (other, numbers[1], other_kind, shares[1]),
+                ]));
+            }
+        }
+    }
+    add(all, "chain", 6, works);
+}
+
+fn recordings(all: &mut Vec<Case>) {
+    let mut works = Vec::new();
+    for date in ["00000000", "20240229", "19000229", "        ", "0000000 "] {
+        for duration in ["000000", "995959", "000060", "      "] {
+            for filled in [0, 28, 87, 94, 98, 99, 300, 540] {
+                let mut record = of("REC", &[(20, date), (88, duration)]);
+                if filled > 0 {
+                    put(&mut record, filled, "X");
+                }
+                let mut work = plain_work();
+                work.push(record);
+                works.push(work);
+            }
+        }
+    }
+    add(all, "recording", 6, works);
+}
+
+/// EWT and VER none to three times, and titles blank.
+fn titles(all: &mut Vec<Case>) {
+    let mut works = Vec::new();
+    for ewts in 0..4 {
+        for vers in 0..4 {
+            for title in ["T", " "] {
+                let mut work = plain_work();
+                work.extend(vec![of("EWT", &[(20, title)]); ewts]);
+                work.extend(vec![of("VER", &[(20, title)]); vers]);
+                works.push(work);
+            }
+        }
+    }
+    add(all, "EWT and VER", 6, works);
+}
+
+/// The types of details, by the order of the table.
+fn details() -> impl Iterator<Item = &'static str> {
+    TYPES.iter().filter(|row| row.class == Class::Detail).map(|row| row.name)
+}
+
+/// Each detail after each other.
+fn orders(all: &mut Vec<Case>) {
+    let mut works = Vec::new();
+    for one in details() {
+        for other in details() {
+            let work = vec![plain_work().remove(0), of(one, &[]), of(other, &[])];
+            works.push(work);
+        }
+    }
+    add(all, "order of two", 6, works);
+}
+
+/// After each leader each two of the types that follow leaders.
+fn leaders(all: &mut Vec<Case>) {
+    let followers = [
+        "NPN", "SPT", "OPT", "NWN", "SWT", "OWT", "PWR", "NET", "NOW", "NVT", "NPR", "IND", "NCT",
+    ];
+    let leaders: Vec<_> = details().filter(|name| !followers.contains(name)).collect();
+    let mut works = Vec::new();
+    for &leader in &leaders {
+        for one in followers {
+            for other in followers {
+                let header = plain_work().remove(0);
+                works.push(vec![header, of(leader, &[]), of(one, &[]), of(other, &[])]);
+            }
+        }
+    }
+    // The leader again, which starts afresh, and another one before.
+    for (leader, last, first) in [
+        ("SPU", "SPT", "NPN"),
+        ("OPU", "OPT", "NPN"),
+        ("SWR", "PWR", "NWN"),
+        ("OWR", "PWR", "NWN"),
+        ("EWT", "NOW", "NET"),
+        ("VER", "NOW", "NVT"),
+        ("COM", "NOW", "NCT"),
+        ("PER", "NPR", "NPR"),
+        ("INS", "IND", "IND"),
+    ] {
+        for between in [leader, "SPU", "ALT", "TER", "MSG", "PER", "INS", "XRF"] {
+            let names = [leader, last, between, first];
+            let mut work = vec![plain_work().remove(0)];
+            work.extend(names.map(|name| of(name, &[])));
+            works.push(work);
+        }
+    }
+    add(all, "order after a leader", 6, works);
+}
+
+/// Groups of works of one type and the other.
+fn groups(all: &mut Vec<Case>) {
+    for (first, second) in [("NWR", "REV"), ("REV", "NWR"), ("ISW", "NWR"), ("   ", "nwr")] {
+        for odd in 0..4 {
+            let mut records = file(first, vec![plain_work(); 3]);
+            let mut group = file(second, vec![plain_work(); 2]);
+            let end = records.len() - 1;
+            records.splice(end..end, group.drain(1..7));
+            if odd > 0 {
+                put(&mut records[2 * odd], 1, "REV");
+            }
+            number(&mut records);
+            let kind = format!("each group: {first}, {second}, {odd}");
+            add_with(all, kind, join(&records), &[Call::Within, Call::Listing]);
+        }
+    }
+}
