@@ -165,11 +165,16 @@ pub fn seeds(run: u64, files: u64) -> Vec<u64> {
     if files < FILES_WITH_ONCE {
         return at_random(files).collect();
     }
-    let (small, large) = (each::number(), boundary::number());
+    let (small, large) = (each::number(), limits());
     (each::FIRST..each::FIRST + small)
-        .chain(at_random(files - small - large))
-        .chain(0..large)
+        .chain(at_random(files - small - large.len() as u64))
+        .chain(large)
         .collect()
+}
+
+/// The seeds of the files at the limits.
+pub fn limits() -> Vec<u64> {
+    (0..boundary::number()).collect()
 }
 
 /// Shorter runs have no files that are made once.

@@ -1,6 +1,7 @@
 //! `compare` against the mock: no difference without a fault, one with each.
 
 use std::process::{Command, Output};
+use std::sync::atomic::{AtomicUsize, Ordering};
 
 const COMPARE: &str = env!("CARGO_BIN_EXE_compare");
 const MOCK: &str = env!("CARGO_BIN_EXE_mock");
@@ -8,15 +9,17 @@ const MOCK: &str = env!("CARGO_BIN_EXE_mock");
 /// The files of the differences that are found are written here.
 const FOUND: &str = env!("CARGO_TARGET_TMPDIR");
 
-fn compare(options: &[&str], driver: &[&str]) -> (Option<i32>, String) {
-    let Output { status, stdout, .. } = Command::new(COMPARE)
-        .env("TMPDIR", FOUND)
-        .args(options)
-        .arg("--")
-        .arg(MOCK)
-        .args(driver)
-        .output()
-        .expect("compare runs");
+/// `compare` with the mock, or a part of it, in the place of each program.
+fn compare(options: &[&str], mock: &[&str], listing: bool) -> (Option<i32>, String) {
+    let mut command = Command::new(COMPARE);
+    command.env("TMPDIR", FOUND).args(options);
+    for _ in ["driver", "probe"] {
+        command.args(["--", MOCK]).args(mock);
+    }
+    if listing {
+        command.args(["--", MOCK, "--listing"]).args(mock);
+    }
+    let Output { status, stdout, .. } = command.output().expect("compare runs");
     let text = String::from_utf8(stdout).expect("text");
     (status.code(), text)
 }
@@ -30,58 +33,118 @@ fn entry<'a>(text: &'a str, name: &str) -> &'a str {
 
 #[test]
 fn no_difference_without_a_fault() {
-    let (code, text) = compare(&[], &[]);
+    let (code, text) = compare(&[], &[], true);
     assert_eq!(code, Some(0), "{text}");
     assert_eq!(
         text.lines().last(),
-        Some("compared 6000 files, no difference")
+        Some("compared 20000 files, no difference")
     );
-    let (code, text) = compare(&["--files", "50", "--seed", "77"], &[]);
-    assert_eq!(code, Some(0), "{text}");
-    assert_eq!(
-        text.lines().last(),
-        Some("compared 50 files, no difference")
-    );
+    for options in [&["--files", "50", "--seed", "77"][..], &["--guard", "--files", "50"]] {
+        let (code, text) = compare(options, &[], true);
+        assert_eq!(code, Some(0), "{text}");
+        assert_eq!(
+            text.lines().last(),
+            Some("compared 50 files, no difference")
+        );
+    }
 }
 
 #[test]
 fn one_call_alone() {
-    // A fault of the other call is not met.
-    let (code, text) = compare(&["--only", "structure"], &["--fault", "copies"]);
-    assert_eq!(code, Some(0), "{text}");
-    assert!(!text.contains("numbering"), "{text}");
-    let (code, text) = compare(&["--only", "numbering"], &[]);
-    assert_eq!(code, Some(0), "{text}");
-    assert!(!text.contains("structure"), "{text}");
+    // A fault of another call is not met.
+    let run = ["--files", "2000", "--only"];
+    for (call, fault) in [
+        ("structure", "copies"),
+        ("number", "writes-nothing"),
+        ("check", "bits-highest"),
+    ] {
+        let options: Vec<_> = run.into_iter().chain([call]).collect();
+        let (code, text) = compare(&options, &["--fault", fault], true);
+        assert_eq!(code, Some(0), "{text}");
+        let others = ["check", "within", "number", "bits", "structure", "counted", "listing"];
+        for other in others.iter().filter(|&&other| other != call) {
+            let of_other = |line: &str| line.starts_with(&format!("{other} "));
+            assert!(!text.lines().any(of_other), "{call}: {text}");
+        }
+    }
 }
 
+/// The calls of a program that is left out are not compared.
+#[test]
+fn programs_left_out() {
+    let run = |programs: &[&str]| {
+        let mut command = Command::new(COMPARE);
+        command.args(["--files", "300"]).args(programs);
+        let output = command.output().expect("compare runs");
+        (output.status.code(), String::from_utf8(output.stdout).expect("text"))
+    };
+    let (code, text) = run(&["--", MOCK]);
+    assert_eq!(code, Some(0), "{text}");
+    assert!(text.contains("\ncheck ") && !text.contains("\nstructure "), "{text}");
+    let (code, text) = run(&["--", "--", MOCK]);
+    assert_eq!(code, Some(0), "{text}");
+    assert!(!text.contains("\ncheck ") && text.contains("\nstructure "), "{text}");
+    let (code, text) = run(&["--", "--", "--", MOCK, "--listing"]);
+    assert_eq!(code, Some(0), "{text}");
+    assert!(!text.contains("\nstructure ") && text.contains("\nlisting "), "{text}");
+}
+
+fn faults() -> Vec<String> {
+    let output = Command::new(MOCK).arg("--faults").output();
+    let text = String::from_utf8(output.expect("mock runs").stdout).expect("text");
+    text.lines().map(String::from).collect()
+}
+
+/// Each fault of the mock, two at a time.
 #[test]
 fn each_fault_is_found() {
-    let faults = Command::new(MOCK)
-        .arg("--faults")
-        .output()
-        .expect("mock runs");
-    let faults = String::from_utf8(faults.stdout).expect("text");
-    assert!(faults.lines().count() > 20);
-    for fault in faults.lines() {
-        let (code, text) = compare(&["--wait", "5"], &["--fault", fault]);
-        assert_eq!(code, Some(1), "{fault}: {text}");
-        assert!(text.starts_with("difference\n"), "{fault}: {text}");
-        // The file that was written is the one whose seed is named, and the
-        // seed alone brings the difference again.
-        let written = std::fs::read(entry(&text, "file")).expect("the file");
-        let seed = entry(&text, "seed");
-        let made = tests::generate::case(seed.parse().expect("a number")).expect("a case");
-        assert_eq!(
-            (made.kind.as_str(), &made.file),
-            (entry(&text, "kind"), &written)
-        );
-        let (code, again) = compare(&["--wait", "5", "--one", seed], &["--fault", fault]);
-        assert_eq!(code, Some(1), "{fault}: {again}");
-        assert!(again.contains("difference\n"), "{fault}: {again}");
-        println!("{fault}: found, kind \"{}\"", made.kind);
-        std::fs::remove_file(entry(&text, "file")).expect("the file");
+    let (faults, next) = (faults(), AtomicUsize::new(0));
+    assert!(faults.len() > 150);
+    // Each finding has one that begins with its number.
+    for finding in 0..=46 {
+        let own = |fault: &String| fault.starts_with(&format!("{finding}-"));
+        assert!(faults.iter().any(own), "none of finding {finding}");
     }
+    std::thread::scope(|scope| {
+        for _ in 0..2 {
+            scope.spawn(|| {
+                while let Some(fault) = faults.get(next.fetch_add(1, Ordering::SeqCst)) {
+                    is_found(fault);
+                }
+            });
+        }
+    });
+}
+
+fn is_found(fault: &str) {
+    let listing = fault.starts_with("listing");
+    let mut options = vec!["--workers", "1"];
+    match fault {
+        "hangs" => options.extend(["--wait", "2"]),
+        _ if fault.ends_with(", large") => options.push("--limits"),
+        _ if fault.ends_with(", guarded") => options.push("--guard"),
+        _ if listing => options.extend(["--only", "listing"]),
+        _ => {}
+    }
+    let mock = ["--fault", fault];
+    let (code, text) = compare(&options, &mock, listing);
+    assert_eq!(code, Some(1), "{fault}: {text}");
+    assert!(text.starts_with("difference\n"), "{fault}: {text}");
+    // The file that was written is the one whose seed is named, and the seed
+    // alone brings the difference again.
+    let written = std::fs::read(entry(&text, "file")).expect("the file");
+    let seed = entry(&text, "seed");
+    let made = tests::generate::case(seed.parse().expect("a number")).expect("a case");
+    assert_eq!(made.kind, entry(&text, "kind"));
+    assert!(made.file == written, "{fault}");
+    options.retain(|option| *option != "--limits");
+    options.extend(["--one", seed]);
+    let (code, again) = compare(&options, &mock, listing);
+    assert_eq!(code, Some(1), "{fault}: {again}");
+    assert!(again.contains("difference\n"), "{fault}: {again}");
+    println!("{fault}: found, {} \"{}\"", entry(&text, "call"), made.kind);
+    // Another fault may have been found by the same file.
+    let _ = std::fs::remove_file(entry(&text, "file"));
 }
 
 #[test]
@@ -94,11 +157,15 @@ fn what_cannot_be_compared() {
     assert_eq!(run(&[]), Some(2));
     assert_eq!(run(&["--files", "x", "--", MOCK]), Some(2));
     assert_eq!(run(&["--", "no-such-driver"]), Some(2));
+    assert_eq!(run(&["--", MOCK, "--", MOCK, "--", MOCK, "--", MOCK]), Some(2));
     assert_eq!(run(&["--one", "16000000", "--", MOCK]), Some(2));
     assert_eq!(run(&["--only", "x", "--", MOCK]), Some(2));
     // A file that is made for numbering.
-    let alone = ["--one", "1", "--only", "structure", "--", MOCK];
+    let alone = ["--one", "1", "--only", "structure", "--", MOCK, "--", MOCK];
     assert_eq!(run(&alone), Some(2));
     // A driver that ends before its first answer.
     assert_eq!(run(&["--files", "5", "--", MOCK, "--faults"]), Some(1));
+    // A listing program that there is none of.
+    let none = ["--only", "listing", "--", MOCK, "--", MOCK, "--", "no-such-program"];
+    assert_eq!(run(&none), Some(1));
 }

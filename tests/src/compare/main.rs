@@ -13,7 +13,7 @@ use options::Options;
 use tally::{Tally, TOO_LONG};
 use tests::calls::{expected, Call, Guard, Program};
 use tests::driver::{list, Driver};
-use tests::generate::{case, seeds, Case};
+use tests::generate::{case, limits, seeds, Case};
 use tests::reference;
 
 /// Why a run, or a part of it, ended early.
@@ -27,6 +27,7 @@ fn main() -> ExitCode {
     let options = options::options();
     let seeds: Vec<u64> = match options.one {
         Some(seed) => vec![seed],
+        None if options.limits => limits(),
         None => seeds(options.run, options.files()),
     };
     let (next, tally) = (AtomicUsize::new(0), Mutex::new(Tally::new()));

@@ -6,7 +6,7 @@ use std::time::Duration;
 use tests::calls::{Call, Program};
 
 const USAGE: &str = "\
-compare [--files N] [--seed S] [--one SEED] [--only CALL] [--guard]
+compare [--files N] [--seed S] [--one SEED] [--limits] [--only CALL] [--guard]
         [--wait SECONDS] [--workers N]
         -- DRIVER ARG... [-- PROBE ARG... [-- LISTING ARG...]]
 
@@ -16,6 +16,7 @@ compare [--files N] [--seed S] [--one SEED] [--only CALL] [--guard]
                   often enough
   --seed S        other files (0; below 2^32)
   --one SEED      only the file of this seed, as a difference names it
+  --limits        only the files at the limits
   --only CALL     one call alone: check, within, number, bits, structure,
                   counted or listing
   --guard         everything that is lent lies directly before a page that
@@ -37,6 +38,7 @@ pub struct Options {
     files: Option<u64>,
     pub run: u64,
     pub one: Option<u64>,
+    pub limits: bool,
     only: Option<Call>,
     pub guard: bool,
     pub patience: Duration,
@@ -70,7 +72,7 @@ impl Options {
 
     /// Whether the least numbers are asked.
     pub fn with_least(&self) -> bool {
-        self.one.is_none() && !self.guard && self.files() >= FILES
+        self.one.is_none() && !self.limits && !self.guard && self.files() >= FILES
     }
 }
 
@@ -79,6 +81,7 @@ pub fn options() -> Options {
         files: None,
         run: 0,
         one: None,
+        limits: false,
         only: None,
         guard: false,
         patience: Duration::from_secs(300),
@@ -92,9 +95,16 @@ pub fn options() -> Options {
         *command = parts.next().unwrap_or(&[]).to_vec();
     }
     while let Some(word) = words.next() {
-        if word == "--guard" {
-            options.guard = true;
-            continue;
+        match word.as_str() {
+            "--guard" => {
+                options.guard = true;
+                continue;
+            }
+            "--limits" => {
+                options.limits = true;
+                continue;
+            }
+            _ => {}
         }
         let value = words.next().map_or("", String::as_str);
         if word == "--only" {

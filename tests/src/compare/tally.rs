@@ -112,7 +112,7 @@ impl Tally {
         let least = |number: u64| if both { number } else { 0 };
         println!("\nfinding                files    alone  records  at least");
         for (finding, &[records, files, alone]) in self.findings.iter().enumerate() {
-            line(&finding.to_string(), &[files, alone, records], least(250));
+            line(&finding.to_string(), &[files, alone, records], least(200));
         }
         println!("\nverdict              records  at least");
         for (verdict, &records) in self.verdicts.iter().enumerate() {

@@ -43,13 +43,13 @@ fn any(work: &Records, types: &[&[u8]], random: &mut Random) -> Option<usize> {
 /// Another value in one field. The type of record is chosen first, so that
 /// those that come seldom have their turn.
 fn field(work: &mut Records, lent: &Lent, random: &mut Random) {
-    let types: &[&[u8]] = match random.below(12) {
+    let types: &[&[u8]] = match random.below(14) {
         0..=3 => &[b"NWR", b"REV"],
         4 | 5 => &[b"SPU"],
-        6 => &[b"OPU"],
-        7 => &[b"SWR"],
-        8 => &[b"OWR"],
-        9 => &[b"EWT", b"VER", b"PER"],
+        6 | 7 => &[b"OPU"],
+        8 | 9 => &[b"SWR"],
+        10 | 11 => &[b"OWR"],
+        12 => &[b"EWT", b"VER", b"PER"],
         _ => &[b"REC"],
     };
     let at = match any(work, types, random) {
@@ -214,7 +214,7 @@ fn chain(work: &mut Records, random: &mut Random) {
         return publisher(work, random);
     }
     let at = random.of(&publishers);
-    match random.below(13) {
+    match random.below(15) {
         0 => put(&mut work[at], 20, random.of(&SEQUENCES)),
         1 => {
             // All in one chain.
@@ -248,7 +248,7 @@ fn chain(work: &mut Records, random: &mut Random) {
             let start = share_start(&work[at], right).expect("a publisher");
             put(&mut work[at], start, random.of(&["00000", "00001", "02500", "0000A"]));
         }
-        8..=10 => {
+        8..=12 => {
             // Another one in the same chain, which an SPU may have begun.
             let number = work[at][19..21].to_vec();
             let (name, kind) = random.of(&[

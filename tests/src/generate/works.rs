@@ -154,7 +154,19 @@ fn header(name: &str, lent: &Lent, random: &mut Random) -> Vec<u8> {
 /// Chains of publishers, without shares.
 fn publishers(lent: &Lent, random: &mut Random) -> Records {
     let mut publishers = Vec::new();
-    let (spus, opus) = random.of(&[(0, 0), (0, 0), (1, 0), (1, 0), (2, 0), (0, 1), (1, 1), (2, 1), (3, 2)]);
+    let (spus, opus) = random.of(&[
+        (0, 0),
+        (0, 0),
+        (1, 0),
+        (1, 0),
+        (2, 0),
+        (0, 1),
+        (0, 2),
+        (1, 1),
+        (1, 1),
+        (2, 1),
+        (3, 2),
+    ]);
     let mut sequence = 0;
     for chain in 0..spus + opus {
         sequence += 1;
