@@ -207,12 +207,12 @@ pub fn case(seed: u64) -> Option<Case> {
         lent::spoil(&mut case.tables, &mut random);
     }
     let records = records_in(&case.file);
-    for (buffer, enough) in [
-        (&mut case.verdicts, records),
-        (&mut case.findings, 8 * records),
-        (&mut case.out, case.file.len()),
+    for (buffer, enough, too_short) in [
+        (&mut case.verdicts, records, 4),
+        (&mut case.findings, 8 * records, 4),
+        (&mut case.out, case.file.len(), 8),
     ] {
-        let length = lent::length(enough, &mut random);
+        let length = lent::length(enough, too_short, &mut random);
         *buffer = random.pattern(length);
     }
     Some(case)

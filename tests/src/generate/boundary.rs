@@ -1,4 +1,5 @@
-//! Files at the limits, each made once. Their seeds are their numbers here.
+//! Files at the limits, each made once. Their seeds are their numbers here;
+//! those that show a fault soonest come first.
 
 use super::damage::unnumber;
 use super::right::{blank, detail, header, named, put, write};
@@ -32,6 +33,35 @@ enum Calls {
 type Boundary = (&'static str, Calls, fn(&mut Random) -> Vec<u8>);
 
 const BOUNDARIES: &[Boundary] = &[
+    ("16,777,217 bytes of zero", Calls::Refused, |_| {
+        vec![0; LARGEST_FILE + 1]
+    }),
+    ("131,072 empty lines", Calls::Both, |_| {
+        b"\r\n".repeat(MOST_RECORDS)
+    }),
+    ("131,073 empty lines", Calls::Both, |_| {
+        b"\r\n".repeat(MOST_RECORDS + 1)
+    }),
+    ("131,073 empty lines, then text", Calls::All, |_| {
+        let mut file = b"\r\n".repeat(MOST_RECORDS + 1);
+        file.push(b' ');
+        file
+    }),
+    ("8,388,607 empty lines, then LF CR", Calls::Refused, |_| {
+        let mut file = b"\r\n".repeat(LARGEST_FILE / 2);
+        file.swap(LARGEST_FILE - 2, LARGEST_FILE - 1);
+        file
+    }),
+    // 2^32 and 10000 together.
+    ("42,951 writers whose total is 10000 in 32 bits", Calls::Check, |_| {
+        join(&of_writers(&[(42_950, 99_999), (1, 20_246)]))
+    }),
+    ("92,000 writers at 99999", Calls::Check, |_| {
+        join(&of_writers(&[(92_000, 99_999)]))
+    }),
+    ("right, 131,072 records", Calls::All, |random| {
+        join(&of_records(MOST_RECORDS, random))
+    }),
     ("right, 16,777,216 bytes", Calls::Both, |random| {
         join(&of_size(LARGEST_FILE, random))
     }),
@@ -52,33 +82,11 @@ const BOUNDARIES: &[Boundary] = &[
     ("right, 16,777,217 bytes", Calls::Both, |random| {
         join(&of_size(LARGEST_FILE + 1, random))
     }),
-    ("16,777,217 bytes of zero", Calls::Refused, |_| {
-        vec![0; LARGEST_FILE + 1]
-    }),
     ("16,777,216 bytes without a pair", Calls::Refused, |_| {
         vec![255; LARGEST_FILE]
     }),
     ("8,388,608 empty lines", Calls::Refused, |_| {
         b"\r\n".repeat(LARGEST_FILE / 2)
-    }),
-    ("8,388,607 empty lines, then LF CR", Calls::Refused, |_| {
-        let mut file = b"\r\n".repeat(LARGEST_FILE / 2);
-        file.swap(LARGEST_FILE - 2, LARGEST_FILE - 1);
-        file
-    }),
-    ("131,072 empty lines", Calls::Both, |_| {
-        b"\r\n".repeat(MOST_RECORDS)
-    }),
-    ("131,073 empty lines", Calls::Both, |_| {
-        b"\r\n".repeat(MOST_RECORDS + 1)
-    }),
-    ("131,073 empty lines, then text", Calls::All, |_| {
-        let mut file = b"\r\n".repeat(MOST_RECORDS + 1);
-        file.push(b' ');
-        file
-    }),
-    ("right, 131,072 records", Calls::All, |random| {
-        join(&of_records(MOST_RECORDS, random))
     }),
     (
         "right, 131,072 records, buffer short",
@@ -197,13 +205,6 @@ const BOUNDARIES: &[Boundary] = &[
     }),
     ("right, 131,072 records, buffers longer", Calls::Buffers(3, 5), |random| {
         join(&of_records(MOST_RECORDS, random))
-    }),
-    ("92,000 writers at 99999", Calls::Check, |_| {
-        join(&of_writers(&[(92_000, 99_999)]))
-    }),
-    // 2^32 and 10000 together.
-    ("42,951 writers whose total is 10000 in 32 bits", Calls::Check, |_| {
-        join(&of_writers(&[(42_950, 99_999), (1, 20_246)]))
     }),
 ];
 

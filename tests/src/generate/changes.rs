@@ -5,7 +5,7 @@ use super::values::{
     fields, wild, Pool, DESIGNATIONS, NO_PUBLISHER_TYPES, PUBLISHER_TYPES, SEQUENCES,
 };
 use super::works::{give, of, share_start, Lent, Records};
-use super::Random;
+use super::{works, Random};
 
 /// Changes one thing.
 pub fn change(work: &mut Records, lent: &Lent, random: &mut Random) {
@@ -76,38 +76,39 @@ fn field(work: &mut Records, lent: &Lent, random: &mut Random) {
     put_bytes(&mut work[at], start, &value);
 }
 
-/// Brings a total to a limit or one off it; the other shares stay, or fill up
-/// what is missing.
+/// Brings totals of a right to a limit or one off it.
 fn total(work: &mut Records, lent: &Lent, random: &mut Random) {
-    let right = random.below(3);
-    let near = random.of(&[0, 5_000, 5_000, 5_000, 10_000, 10_000]);
-    let off = random.of(&[
-        0,
-        lent.tolerance as isize,
-        lent.tolerance as isize + 1,
-        -(lent.tolerance as isize),
-        -(lent.tolerance as isize) - 1,
-        3,
-        7,
-    ]);
-    let target = near as isize + off;
-    let target = target.max(0) as usize;
     let is_writer = |record: &Vec<u8>| matches!(&record[..3], b"SWR" | b"OWR");
-    let Some(first_writer) = work.iter().position(is_writer) else {
+    let Some(mut first_writer) = work.iter().position(is_writer) else {
         return;
     };
+    if random.one_in(3) {
+        // More than half of PR needs two publishers, or one has too much.
+        work.insert(first_writer, another_owner(&work[..first_writer]));
+        first_writer += 1;
+    }
     let (publishers, writers) = work.split_at_mut(first_writer);
-    let of_publishers = random.one_in(2);
-    let (one, other) = match of_publishers {
+    let t = lent.tolerance as isize;
+    let off = |random: &mut Random| random.of(&[0, t, t + 1, -t, -t - 1, 1, -1, 3, 7]);
+    if random.one_in(3) {
+        // Both near their half of PR.
+        let halves = [off(random), off(random)].map(|off| (5_000 + off) as usize);
+        give(publishers, 0, halves[0], random);
+        give(writers, 0, halves[1], random);
+        return;
+    }
+    let right = random.below(3);
+    let near = random.of(&[0, 5_000, 5_000, 10_000, 10_000]);
+    let target = (near + off(random)).max(0) as usize;
+    let (one, other) = match random.one_in(2) {
         true => (publishers, writers),
         false => (writers, publishers),
     };
     let given = give(one, right, target, random);
     match random.below(4) {
         0 | 1 => {
-            // Together near the full share, as far off.
-            let t = lent.tolerance as isize;
-            let together = 10_000isize + random.of(&[0, 0, t, -t, off, -off]);
+            // Together near the full share.
+            let together = 10_000 + random.of(&[0, 0, t, -t, t + 1, -t - 1]);
             let rest = (together - given as isize).max(0) as usize;
             give(other, right, rest, random);
         }
@@ -116,6 +117,16 @@ fn total(work: &mut Records, lent: &Lent, random: &mut Random) {
         }
         _ => {}
     }
+}
+
+/// An OPU of a new chain after these records.
+fn another_owner(before: &[Vec<u8>]) -> Vec<u8> {
+    let last = before.iter().rfind(|record| matches!(&record[..3], b"SPU" | b"OPU"));
+    let number = last.and_then(|record| std::str::from_utf8(&record[19..21]).ok()?.parse().ok());
+    let number = number.unwrap_or(0) + 1;
+    let mut owner = works::publisher("OPU", "E ", [0; 3]);
+    put(&mut owner, 20, &format!("{:02}", number % 100));
+    owner
 }
 
 /// Moves, repeats, removes or puts in details.
@@ -260,7 +271,7 @@ fn chain(work: &mut Records, random: &mut Random) {
                 ("OPU", "E "),
                 ("OPU", "  "),
             ]);
-            let mut new = super::works::publisher(name, kind, [0; 3]);
+            let mut new = works::publisher(name, kind, [0; 3]);
             put_bytes(&mut new, 20, &number);
             if name == "OPU" && random.one_in(2) {
                 put(&mut new, 76, "Y");

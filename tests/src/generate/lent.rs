@@ -78,14 +78,17 @@ pub fn too_large(random: &mut Random) -> u64 {
     random.of(&[7, 8, 255, 256, 262, 65_536, 1 << 32, (1 << 32) + 6, 1 << 63, u64::MAX, any])
 }
 
-/// The length of a buffer for which so many bytes are enough.
-pub fn length(enough: usize, random: &mut Random) -> usize {
+/// The length of a buffer for which so many bytes are enough; too short so
+/// many times in sixty.
+pub fn length(enough: usize, too_short: usize, random: &mut Random) -> usize {
     match random.below(60) {
-        0..=48 => enough,
-        49..=54 => enough + random.between(1, 40),
-        55 => enough + 1,
-        56 | 57 => enough.saturating_sub(1),
-        58 => random.between(0, enough),
-        _ => 0,
+        time if time < too_short => match time % 4 {
+            0 | 1 => enough.saturating_sub(1),
+            2 => random.between(0, enough),
+            _ => 0,
+        },
+        time if time < too_short + 6 => enough + random.between(1, 40),
+        59 => enough + 1,
+        _ => enough,
     }
 }

@@ -4,6 +4,7 @@ use std::collections::{HashMap, HashSet};
 
 use super::damage::{all, FAMILIES};
 use super::*;
+use crate::calls::expected;
 use crate::reference::types::{find, Class};
 use crate::reference::{numbering, structure, Answer};
 
@@ -47,14 +48,80 @@ fn right_files_pass() {
     assert!((32..=255).all(|byte| bytes.contains(&byte)));
 }
 
+/// What works are made for here.
+fn with_lent<T>(seed: u64, make: impl Fn(&Lent, &mut Random) -> T) -> T {
+    let mut random = Random::new(seed);
+    let tables = lent::tables(&mut random);
+    let lent = Lent {
+        tables: &tables,
+        tolerance: lent::tolerance(&mut random),
+    };
+    make(&lent, &mut random)
+}
+
+#[test]
+fn works_pass() {
+    let (mut types, mut sizes) = (HashSet::new(), 0);
+    for seed in 0..2000 {
+        let records = with_lent(seed, works::records);
+        let file = join(&records);
+        assert_eq!(refusal(structure(&file)), 0);
+        sizes += file.len();
+        types.extend(records.iter().map(|r| r[..3].to_vec()));
+    }
+    assert_eq!(types.len(), 38);
+    // Small, since there are many.
+    assert!(sizes / 2000 < 5000, "{sizes}");
+}
+
+/// Many transactions have no finding or one, and each finding is the only one
+/// of some transaction; but 4 never comes without 5.
+#[test]
+fn works_are_nearly_right() {
+    let (mut alone, mut by_number) = (HashMap::new(), [0; 65]);
+    for seed in seeds(1, 9000).into_iter().filter(|&seed| matches!(kind(seed), Kind::Works)) {
+        let case = case(seed).unwrap();
+        let reply = expected(&case.request(Call::Within, Guard::None));
+        if reply.refusal() != 0 {
+            continue;
+        }
+        let lines = crate::reference::lines::lines(&case.file);
+        let mut sets: Vec<u64> = Vec::new();
+        for (record, line) in lines.iter().enumerate() {
+            match find(line.text).unwrap().class {
+                Class::Header => sets.push(reply.set(record)),
+                Class::Detail => *sets.last_mut().unwrap() |= reply.set(record),
+                _ => {}
+            }
+        }
+        for set in sets {
+            by_number[set.count_ones() as usize] += 1;
+            if set.count_ones() == 1 {
+                *alone.entry(set.trailing_zeros()).or_insert(0) += 1;
+            }
+        }
+    }
+    let all: i32 = by_number.iter().sum();
+    assert!(by_number[0] * 6 > all && by_number[1] * 6 > all, "{by_number:?}");
+    let missing: Vec<_> = (0..47).filter(|finding| !alone.contains_key(finding)).collect();
+    assert_eq!(missing, [4], "{alone:?}");
+}
+
 #[test]
 fn unnumbered_files_become_right_ones() {
     for seed in 0..500 {
-        let right = join(&right::records(&mut Random::new(seed)));
-        let file = file(&Kind::Unnumbered, &mut Random::new(seed));
-        let mut out = vec![0; file.len()];
-        assert_eq!(numbering(&file, &mut out), structure(&right));
-        assert_eq!(out, right);
+        for records in [
+            right::records(&mut Random::new(seed)),
+            with_lent(seed, works::records),
+        ] {
+            let right = join(&records);
+            let mut unnumbered = records;
+            damage::unnumber(&mut unnumbered, &mut Random::new(seed));
+            let file = join(&unnumbered);
+            let mut out = vec![0; file.len()];
+            assert_eq!(numbering(&file, &mut out), structure(&right));
+            assert!(out == right, "{seed}");
+        }
     }
 }
 
@@ -64,13 +131,19 @@ fn a_seed_gives_the_same_file() {
         let (one, other) = (case(seed).unwrap(), case(seed).unwrap());
         assert_eq!(one.kind, other.kind);
         assert_eq!(one.file, other.file);
+        assert_eq!(one.tables, other.tables);
+        assert_eq!(one.tolerance, other.tolerance);
+        assert_eq!(one.verdicts, other.verdicts);
+        assert_eq!(one.findings, other.findings);
         assert_eq!(one.out, other.out);
+        assert_eq!(one.set, other.set);
+        assert_eq!(one.calls, other.calls);
     }
 }
 
 #[test]
 fn every_seed_gives_a_file() {
-    for run in 0..25 {
+    for run in 0..6 {
         for seed in seeds(run, FILES_WITH_ONCE - 1) {
             assert!(case(seed).unwrap().file.len() < 1_000_000);
         }
@@ -85,7 +158,7 @@ fn each_damage_reaches_its_refusal() {
         assert!(FAMILIES.contains(&damage.family));
         let kind = Kind::Damaged(vec![damage]);
         let reached = (0..400).any(|seed| {
-            let answer = structure(&file(&kind, &mut Random::new(seed)));
+            let answer = structure(&with_lent(seed, |lent, random| file(&kind, lent, random)));
             damage.family == 0 || refusal(answer) == damage.family
         });
         assert!(reached, "{} never brings {}", damage.name, damage.family);
@@ -121,58 +194,71 @@ fn promises_of_numbering() {
 
 #[test]
 fn boundary_answers() {
-    // Structure and numbering, 0 for passed; none where it is not compared.
-    let expected: [(Option<u32>, Option<u32>); 27] = [
-        (Some(0), Some(0)),
-        (None, Some(11)),
-        (None, Some(0)),
-        (Some(3), Some(3)),
-        (Some(3), Some(3)),
-        (Some(4), Some(4)),
-        (Some(5), Some(5)),
-        (Some(4), Some(4)),
-        (Some(6), Some(6)),
-        (Some(5), Some(5)),
-        (Some(4), Some(4)),
-        (Some(0), Some(0)),
-        (None, Some(11)),
-        (None, Some(0)),
-        (Some(5), Some(5)),
-        (Some(5), Some(5)),
-        (Some(4), Some(4)),
-        (Some(6), Some(6)),
-        (Some(7), Some(7)),
-        (Some(9), Some(10)),
-        (Some(10), Some(10)),
-        (Some(0), Some(0)),
-        (Some(8), None),
-        (Some(0), Some(0)),
-        (Some(8), None),
-        (Some(9), None),
-        (Some(0), Some(0)),
+    // The refusals of the calls in their order, 0 for passed.
+    let expected_answers: [&[u64]; 32] = [
+        &[3, 3],
+        &[6, 6],
+        &[5, 5],
+        &[4, 4, 4],
+        &[4, 4],
+        &[0],
+        &[0],
+        &[0, 0, 0],
+        &[0, 0],
+        &[11],
+        &[0],
+        &[3, 3],
+        &[4, 4],
+        &[5, 5],
+        &[11],
+        &[0],
+        &[5, 5, 5],
+        &[5, 5],
+        &[4, 4],
+        &[6, 6],
+        &[7, 7],
+        &[9, 10],
+        &[10, 10],
+        &[0, 0, 0, 0],
+        &[8],
+        &[0, 0, 0],
+        &[8],
+        &[9],
+        &[0, 0, 0, 0],
+        &[11],
+        &[11],
+        &[0],
     ];
-    assert_eq!(boundary::number(), expected.len() as u64);
-    for (seed, expected) in expected.into_iter().enumerate() {
-        let mut case = case(seed as u64).unwrap();
-        let asked = |operation| case.operations.contains(&operation);
-        let (s, n) = (asked(Operation::Structure), asked(Operation::Numbering));
-        let answers = (
-            s.then(|| refusal(structure(&case.file))),
-            n.then(|| refusal(numbering(&case.file, &mut case.out))),
-        );
-        assert_eq!(answers, expected, "{}", case.kind);
+    assert_eq!(boundary::number(), expected_answers.len() as u64);
+    for (seed, refusals) in expected_answers.into_iter().enumerate() {
+        let case = case(seed as u64).unwrap();
+        let answer = |&call| expected(&case.request(call, Guard::None)).refusal();
+        let answers: Vec<_> = case.calls.iter().map(answer).collect();
+        assert_eq!(answers, refusals, "{}", case.kind);
     }
     assert!(case(boundary::number()).is_none());
     assert!(case(each::FIRST + each::number()).is_none());
+}
+
+/// Writers' shares whose total does not fit 32 bits.
+#[test]
+fn large_totals() {
+    for kind in ["92,000 writers", "42,951 writers"] {
+        let mut cases = limits().into_iter().map(|seed| case(seed).unwrap());
+        let case = cases.find(|case| case.kind.starts_with(kind)).unwrap();
+        let reply = expected(&case.request(Call::Within, Guard::None));
+        assert_eq!(reply.set(2), 0b1100);
+        assert_eq!(reply.set(3), 1 << 41);
+    }
 }
 
 #[test]
 fn a_run_is_wide() {
     let (mut damages, mut wrong_steps, mut ends) = (HashMap::new(), HashSet::new(), HashSet::new());
     let mut wrong_bytes: HashMap<_, u32> = HashMap::new();
-    let seeds = seeds(0, 6000);
-    assert_eq!(seeds.len(), 6000);
-    assert_eq!(seeds.iter().collect::<HashSet<_>>().len(), 6000);
+    let seeds = seeds(0, 20_000);
+    assert_eq!(seeds.len(), 20_000);
+    assert_eq!(seeds.iter().collect::<HashSet<_>>().len(), 20_000);
     for seed in seeds {
         if seed >= FIRST_SEED {
             if let Kind::Damaged(list) = kind(seed) {

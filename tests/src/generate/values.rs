@@ -192,10 +192,17 @@ fn code(table: &[u8], size: usize, random: &mut Random) -> Vec<u8> {
         }
         _ => {}
     }
+    writable(code)
+}
+
+/// A table's entry such that it can stand in a file; entries can be any bytes.
+pub fn writable(mut code: Vec<u8>) -> Vec<u8> {
+    let controls = code.iter_mut().filter(|byte| **byte < 32);
+    controls.for_each(|byte| *byte = b'?');
     code
 }
 
-/// Nine digits' ISWC.
+/// A right ISWC of any nine digits.
 pub fn right_iswc(random: &mut Random) -> Vec<u8> {
     let mut iswc = vec![b'T'];
     let mut sum = 1;

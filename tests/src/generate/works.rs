@@ -1,7 +1,7 @@
 //! Works: transactions with few findings or none.
 
 use super::right::{detail, named, number, plain, put, put_bytes};
-use super::values::{right_iswc, DESIGNATIONS};
+use super::values::{right_iswc, writable, DESIGNATIONS};
 use super::{changes, Random};
 
 pub type Records = Vec<Vec<u8>>;
@@ -131,7 +131,7 @@ fn header(name: &str, lent: &Lent, random: &mut Random) -> Vec<u8> {
     );
     let any = |table: &[u8], size: usize, random: &mut Random| match table.len() / size {
         0 => vec![b' '; size],
-        entries => table[size * random.below(entries)..][..size].to_vec(),
+        entries => writable(table[size * random.below(entries)..][..size].to_vec()),
     };
     if random.one_in(3) {
         put_bytes(&mut header, 80, &any(&lent.tables[0], 2, random));
@@ -195,7 +195,8 @@ fn publishers(lent: &Lent, random: &mut Random) -> Records {
             for start in [113, 121, 129] {
                 if societies.len() >= 3 && random.one_in(3) {
                     let entry = 3 * random.below(societies.len() / 3);
-                    put_bytes(&mut publisher, start, &societies[entry..entry + 3]);
+                    let society = writable(societies[entry..entry + 3].to_vec());
+                    put_bytes(&mut publisher, start, &society);
                 }
             }
             publishers.push(publisher);

@@ -1,89 +1,11 @@
-//! Expectations made by hand from the scope and its readings.
+//! Refusals 3 to 11 and numbering.
 
-use super::types::{Class, TYPES};
 use super::*;
-
-/// A record: text put at positions counted from 1, blanks elsewhere.
-fn record(length: usize, parts: &[(usize, &str)]) -> Vec<u8> {
-    let mut record = vec![b' '; length];
-    for &(start, text) in parts {
-        record[start - 1..start - 1 + text.len()].copy_from_slice(text.as_bytes());
-    }
-    record
-}
-
-fn join(records: &[Vec<u8>]) -> Vec<u8> {
-    let mut file = Vec::new();
-    for record in records {
-        file.extend_from_slice(record);
-        file.extend_from_slice(b"\r\n");
-    }
-    file
-}
-
-fn hdr() -> Vec<u8> {
-    record(167, &[(1, "HDR"), (102, "2.2002")])
-}
-
-fn grh(group: &str) -> Vec<u8> {
-    record(28, &[(1, "GRHNWR"), (7, group)])
-}
-
-fn nwr(prefix: &str) -> Vec<u8> {
-    record(
-        260,
-        &[
-            (1, "NWR"),
-            (4, prefix),
-            (20, "A"),
-            (82, "1"),
-            (107, "00000000"),
-            (127, "POP000000"),
-        ],
-    )
-}
-
-fn swr(prefix: &str) -> Vec<u8> {
-    record(
-        180,
-        &[
-            (1, "SWR"),
-            (4, prefix),
-            (20, "1"),
-            (29, "B"),
-            (105, "C"),
-            (130, "10000"),
-            (138, "10000"),
-            (146, "10000"),
-        ],
-    )
-}
+use crate::reference::types::{self, Class, TYPES};
+use crate::reference::{numbering, structure};
 
 fn ter(prefix: &str) -> Vec<u8> {
     record(24, &[(1, "TER"), (4, prefix)])
-}
-
-fn grt(numbers: &str) -> Vec<u8> {
-    record(37, &[(1, "GRT"), (4, numbers)])
-}
-
-fn trl(numbers: &str) -> Vec<u8> {
-    record(24, &[(1, "TRL"), (4, numbers)])
-}
-
-fn records_a() -> Vec<Vec<u8>> {
-    vec![
-        hdr(),
-        grh("00001"),
-        nwr("0000000000000000"),
-        swr("0000000000000001"),
-        grt("000010000000100000004"),
-        trl("000010000000100000006"),
-    ]
-}
-
-fn file_a() -> Vec<u8> {
-    join(&records_a())
 }
 
 /// Two groups; three transactions, one of them with two details.
@@ -102,18 +24,6 @@ fn records_b() -> Vec<Vec<u8>> {
         grt("000020000000100000003"),
         trl("000020000000300000012"),
     ]
-}
-
-fn refusal(number: u32, place: u32) -> Answer {
-    Answer::Refused { number, place }
-}
-
-fn passes(groups: u64, transactions: u64, records: u64) -> Answer {
-    Answer::Passed {
-        groups,
-        transactions,
-        records,
-    }
 }
 
 /// Both calls' answers; numbering has a buffer of the file's length.
