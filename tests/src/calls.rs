@@ -281,9 +281,7 @@ pub fn expected(request: &Request) -> Reply {
     let (file, tables) = (&request.file, request.tables());
     let answer = match request.call {
         Call::Check => reference::check_short(file, &tables, &mut first, &mut second),
-        Call::Within => {
-            reference::check(request.number, file, &tables, &mut first, &mut second)
-        }
+        Call::Within => reference::check(request.number, file, &tables, &mut first, &mut second),
         Call::Number | Call::Counted => reference::numbering(file, &mut first),
         Call::Structure => reference::structure(file),
         Call::Bits => {

@@ -57,7 +57,9 @@ impl Driver {
     /// Asks once; an error says how the driver failed.
     pub fn ask(&mut self, request: &Request) -> Result<Reply, String> {
         let input = self.input.as_mut().expect("open until the end");
-        let sent = input.write_all(&request.bytes()).and_then(|()| input.flush());
+        let sent = input
+            .write_all(&request.bytes())
+            .and_then(|()| input.flush());
         if let Err(error) = sent {
             return Err(self.failed(&format!("takes no request ({error})")));
         }

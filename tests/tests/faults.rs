@@ -39,7 +39,10 @@ fn no_difference_without_a_fault() {
         text.lines().last(),
         Some("compared 20000 files, no difference")
     );
-    for options in [&["--files", "50", "--seed", "77"][..], &["--guard", "--files", "50"]] {
+    for options in [
+        &["--files", "50", "--seed", "77"][..],
+        &["--guard", "--files", "50"],
+    ] {
         let (code, text) = compare(options, &[], true);
         assert_eq!(code, Some(0), "{text}");
         assert_eq!(
@@ -61,7 +64,15 @@ fn one_call_alone() {
         let options: Vec<_> = run.into_iter().chain([call]).collect();
         let (code, text) = compare(&options, &["--fault", fault], true);
         assert_eq!(code, Some(0), "{text}");
-        let others = ["check", "within", "number", "bits", "structure", "counted", "listing"];
+        let others = [
+            "check",
+            "within",
+            "number",
+            "bits",
+            "structure",
+            "counted",
+            "listing",
+        ];
         for other in others.iter().filter(|&&other| other != call) {
             let of_other = |line: &str| line.starts_with(&format!("{other} "));
             assert!(!text.lines().any(of_other), "{call}: {text}");
@@ -76,17 +87,29 @@ fn programs_left_out() {
         let mut command = Command::new(COMPARE);
         command.args(["--files", "300"]).args(programs);
         let output = command.output().expect("compare runs");
-        (output.status.code(), String::from_utf8(output.stdout).expect("text"))
+        (
+            output.status.code(),
+            String::from_utf8(output.stdout).expect("text"),
+        )
     };
     let (code, text) = run(&["--", MOCK]);
     assert_eq!(code, Some(0), "{text}");
-    assert!(text.contains("\ncheck ") && !text.contains("\nstructure "), "{text}");
+    assert!(
+        text.contains("\ncheck ") && !text.contains("\nstructure "),
+        "{text}"
+    );
     let (code, text) = run(&["--", "--", MOCK]);
     assert_eq!(code, Some(0), "{text}");
-    assert!(!text.contains("\ncheck ") && text.contains("\nstructure "), "{text}");
+    assert!(
+        !text.contains("\ncheck ") && text.contains("\nstructure "),
+        "{text}"
+    );
     let (code, text) = run(&["--", "--", "--", MOCK, "--listing"]);
     assert_eq!(code, Some(0), "{text}");
-    assert!(!text.contains("\nstructure ") && text.contains("\nlisting "), "{text}");
+    assert!(
+        !text.contains("\nstructure ") && text.contains("\nlisting "),
+        "{text}"
+    );
 }
 
 fn faults() -> Vec<String> {
@@ -157,7 +180,10 @@ fn what_cannot_be_compared() {
     assert_eq!(run(&[]), Some(2));
     assert_eq!(run(&["--files", "x", "--", MOCK]), Some(2));
     assert_eq!(run(&["--", "no-such-driver"]), Some(2));
-    assert_eq!(run(&["--", MOCK, "--", MOCK, "--", MOCK, "--", MOCK]), Some(2));
+    assert_eq!(
+        run(&["--", MOCK, "--", MOCK, "--", MOCK, "--", MOCK]),
+        Some(2)
+    );
     assert_eq!(run(&["--one", "16000000", "--", MOCK]), Some(2));
     assert_eq!(run(&["--only", "x", "--", MOCK]), Some(2));
     // A file that is made for numbering.
@@ -166,6 +192,15 @@ fn what_cannot_be_compared() {
     // A driver that ends before its first answer.
     assert_eq!(run(&["--files", "5", "--", MOCK, "--faults"]), Some(1));
     // A listing program that there is none of.
-    let none = ["--only", "listing", "--", MOCK, "--", MOCK, "--", "no-such-program"];
+    let none = [
+        "--only",
+        "listing",
+        "--",
+        MOCK,
+        "--",
+        MOCK,
+        "--",
+        "no-such-program",
+    ];
     assert_eq!(run(&none), Some(1));
 }

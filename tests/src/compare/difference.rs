@@ -44,7 +44,10 @@ pub fn of_replies(
             if call == Call::Within {
                 add("tolerance", &request.number.to_string());
             }
-            for (name, table) in ["languages", "societies", "categories"].iter().zip(&request.tables) {
+            for (name, table) in ["languages", "societies", "categories"]
+                .iter()
+                .zip(&request.tables)
+            {
                 add(name, &format!("{} bytes", table.len()));
             }
         }
@@ -90,15 +93,24 @@ pub fn of_replies(
 fn of_records(request: &Request, reference: &Reply, library: &Reply) -> Option<(String, String)> {
     let records = reference.packed as usize;
     let judged = |reply: &Reply, record: usize| (reply.buffers[0][record], reply.set(record));
-    let record = (0..records).find(|&record| judged(reference, record) != judged(library, record))?;
-    let line = request.file.split(|&byte| byte == b'\n').nth(record).unwrap_or(&[]);
+    let record =
+        (0..records).find(|&record| judged(reference, record) != judged(library, record))?;
+    let line = request
+        .file
+        .split(|&byte| byte == b'\n')
+        .nth(record)
+        .unwrap_or(&[]);
     let kind = String::from_utf8_lossy(&line[..line.len().min(3)]).into_owned();
     let words = |reply: &Reply| {
         let (verdict, set) = judged(reply, record);
         let findings: Vec<_> = (0..64).filter(|n| set >> n & 1 == 1).collect();
         format!("verdict {verdict}, findings {findings:?}")
     };
-    let words = format!("{kind}: reference {}; library {}", words(reference), words(library));
+    let words = format!(
+        "{kind}: reference {}; library {}",
+        words(reference),
+        words(library)
+    );
     Some((format!("record {record}"), words))
 }
 
@@ -112,7 +124,8 @@ pub fn of_listings(case: &Case, reference: &[u8], library: &Result<Vec<u8>, Stri
         }
         Ok(library) => library,
     };
-    let mut lines = [reference, library].map(|listing| listing.split_inclusive(|&byte| byte == b'\n'));
+    let mut lines =
+        [reference, library].map(|listing| listing.split_inclusive(|&byte| byte == b'\n'));
     for number in 0.. {
         let [one, other] = lines.each_mut().map(|lines| lines.next());
         if one != other || one.is_none() {

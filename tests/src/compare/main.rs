@@ -83,7 +83,10 @@ fn work(
         [] => Ok(None),
         command => match Driver::start(command, options.patience) {
             Ok(driver) => Ok(Some(driver)),
-            Err(error) => Err(Stop::Failed(format!("{} does not start: {error}", command[0]))),
+            Err(error) => Err(Stop::Failed(format!(
+                "{} does not start: {error}",
+                command[0]
+            ))),
         },
     };
     let mut drivers = [start(Program::Driver)?, start(Program::Probe)?];
@@ -91,7 +94,11 @@ fn work(
         let Some(case) = case(seed) else {
             return Err(Stop::Failed(format!("no file has the seed {seed}")));
         };
-        let calls: Vec<_> = case.calls.iter().filter(|call| options.asked(**call)).collect();
+        let calls: Vec<_> = case
+            .calls
+            .iter()
+            .filter(|call| options.asked(**call))
+            .collect();
         tally.files += u64::from(!calls.is_empty());
         for &call in calls {
             match call.program() {
@@ -132,7 +139,12 @@ fn compare_call(
         }
     }
     if options.one.is_some() {
-        println!("{} {}: {}", call.name(), case.kind, reference.describe(call));
+        println!(
+            "{} {}: {}",
+            call.name(),
+            case.kind,
+            reference.describe(call)
+        );
     }
     tally.reply(&request, &reference);
     Ok(())
@@ -140,7 +152,11 @@ fn compare_call(
 
 fn compare_listing(options: &Options, case: &Case, tally: &mut Tally) -> Result<(), Stop> {
     let reference = reference::listing(&case.file);
-    let library = list(options.command(Program::Listing), &case.file, options.patience);
+    let library = list(
+        options.command(Program::Listing),
+        &case.file,
+        options.patience,
+    );
     if library.as_ref() != Ok(&reference) {
         let text = difference::of_listings(case, &reference, &library);
         return Err(Stop::Difference(text));

@@ -53,9 +53,11 @@ const BOUNDARIES: &[Boundary] = &[
         file
     }),
     // 2^32 and 10000 together.
-    ("42,951 writers whose total is 10000 in 32 bits", Calls::Check, |_| {
-        join(&of_writers(&[(42_950, 99_999), (1, 20_246)]))
-    }),
+    (
+        "42,951 writers whose total is 10000 in 32 bits",
+        Calls::Check,
+        |_| join(&of_writers(&[(42_950, 99_999), (1, 20_246)])),
+    ),
     ("92,000 writers at 99999", Calls::Check, |_| {
         join(&of_writers(&[(92_000, 99_999)]))
     }),
@@ -169,15 +171,11 @@ const BOUNDARIES: &[Boundary] = &[
     ("right, 131,067 details", Calls::All, |random| {
         join(&of_details(random))
     }),
-    (
-        "131,067 details, the last wrong",
-        Calls::Check,
-        |random| {
-            let mut records = of_details(random);
-            put(&mut records[MOST_RECORDS - 3], 12, "00131066");
-            join(&records)
-        },
-    ),
+    ("131,067 details, the last wrong", Calls::Check, |random| {
+        let mut records = of_details(random);
+        put(&mut records[MOST_RECORDS - 3], 12, "00131066");
+        join(&records)
+    }),
     (
         "131,067 details, GRT records in sixteen bits",
         Calls::Check,
@@ -197,15 +195,21 @@ const BOUNDARIES: &[Boundary] = &[
             join(&write(&types, random))
         },
     ),
-    ("right, 131,072 records, no verdict for the last", Calls::Buffers(-1, 0), |random| {
-        join(&of_records(MOST_RECORDS, random))
-    }),
-    ("right, 131,072 records, findings one byte short", Calls::Buffers(1, -1), |random| {
-        join(&of_records(MOST_RECORDS, random))
-    }),
-    ("right, 131,072 records, buffers longer", Calls::Buffers(3, 5), |random| {
-        join(&of_records(MOST_RECORDS, random))
-    }),
+    (
+        "right, 131,072 records, no verdict for the last",
+        Calls::Buffers(-1, 0),
+        |random| join(&of_records(MOST_RECORDS, random)),
+    ),
+    (
+        "right, 131,072 records, findings one byte short",
+        Calls::Buffers(1, -1),
+        |random| join(&of_records(MOST_RECORDS, random)),
+    ),
+    (
+        "right, 131,072 records, buffers longer",
+        Calls::Buffers(3, 5),
+        |random| join(&of_records(MOST_RECORDS, random)),
+    ),
 ];
 
 /// How many there are.

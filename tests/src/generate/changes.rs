@@ -36,7 +36,9 @@ pub fn mix(work: &mut Records, lent: &Lent, random: &mut Random) {
 
 /// Where a record of one of these types stands.
 fn any(work: &Records, types: &[&[u8]], random: &mut Random) -> Option<usize> {
-    let places: Vec<_> = (0..work.len()).filter(|&at| types.contains(&&work[at][..3])).collect();
+    let places: Vec<_> = (0..work.len())
+        .filter(|&at| types.contains(&&work[at][..3]))
+        .collect();
     (!places.is_empty()).then(|| random.of(&places))
 }
 
@@ -121,7 +123,9 @@ fn total(work: &mut Records, lent: &Lent, random: &mut Random) {
 
 /// An OPU of a new chain after these records.
 fn another_owner(before: &[Vec<u8>]) -> Vec<u8> {
-    let last = before.iter().rfind(|record| matches!(&record[..3], b"SPU" | b"OPU"));
+    let last = before
+        .iter()
+        .rfind(|record| matches!(&record[..3], b"SPU" | b"OPU"));
     let number = last.and_then(|record| std::str::from_utf8(&record[19..21]).ok()?.parse().ok());
     let number = number.unwrap_or(0) + 1;
     let mut owner = works::publisher("OPU", "E ", [0; 3]);
@@ -211,7 +215,9 @@ fn rejected(work: &mut Records, random: &mut Random) {
 
 /// Where a REC or a last PER stands in the right order.
 fn place_of_rec(work: &Records) -> usize {
-    let later: [&[u8]; 8] = [b"REC", b"ORN", b"INS", b"IND", b"COM", b"NCT", b"ARI", b"XRF"];
+    let later: [&[u8]; 8] = [
+        b"REC", b"ORN", b"INS", b"IND", b"COM", b"NCT", b"ARI", b"XRF",
+    ];
     let place = work.iter().position(|record| later.contains(&&record[..3]));
     place.unwrap_or(work.len())
 }
@@ -257,7 +263,11 @@ fn chain(work: &mut Records, random: &mut Random) {
         7 => {
             let right = random.below(3);
             let start = share_start(&work[at], right).expect("a publisher");
-            put(&mut work[at], start, random.of(&["00000", "00001", "02500", "0000A"]));
+            put(
+                &mut work[at],
+                start,
+                random.of(&["00000", "00001", "02500", "0000A"]),
+            );
         }
         8..=12 => {
             // Another one in the same chain, which an SPU may have begun.
@@ -293,7 +303,11 @@ fn publisher(work: &mut Records, random: &mut Random) {
         name,
         &[(22, "P2"), (31, "ANOTHER"), (116, "00000   00000   00000")],
     );
-    put(&mut new, 77, random.of(&["E ", "AQ", "AQ", "AM", "PA", "  "]));
+    put(
+        &mut new,
+        77,
+        random.of(&["E ", "AQ", "AQ", "AM", "PA", "  "]),
+    );
     put(&mut new, 20, random.of(&["01", "01", "02", "03", "00"]));
     let at = match any(work, &[name.as_bytes()], random) {
         Some(at) => at + random.below(2),

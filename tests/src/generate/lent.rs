@@ -75,7 +75,19 @@ pub fn tolerance(random: &mut Random) -> u64 {
 /// One that is not, those among them that fit where bits are lost.
 pub fn too_large(random: &mut Random) -> u64 {
     let any = random.draw() | 8;
-    random.of(&[7, 8, 255, 256, 262, 65_536, 1 << 32, (1 << 32) + 6, 1 << 63, u64::MAX, any])
+    random.of(&[
+        7,
+        8,
+        255,
+        256,
+        262,
+        65_536,
+        1 << 32,
+        (1 << 32) + 6,
+        1 << 63,
+        u64::MAX,
+        any,
+    ])
 }
 
 /// The length of a buffer for which so many bytes are enough; too short so

@@ -57,7 +57,10 @@ pub fn of_class(class: Class, random: &mut Random) -> &'static Type {
 /// counting; right where the types stand in right places.
 pub fn write(types: &[&'static Type], random: &mut Random) -> Vec<Vec<u8>> {
     let mut records: Vec<_> = types.iter().map(|row| blank(row, random)).collect();
-    for record in records.iter_mut().filter(|record| record.starts_with(b"HDR")) {
+    for record in records
+        .iter_mut()
+        .filter(|record| record.starts_with(b"HDR"))
+    {
         let revision = random.of(&["000", "001", "002"]);
         put(record, 102, "2.2");
         put(record, 105, revision);

@@ -79,7 +79,10 @@ fn works_pass() {
 #[test]
 fn works_are_nearly_right() {
     let (mut alone, mut by_number) = (HashMap::new(), [0; 65]);
-    for seed in seeds(1, 9000).into_iter().filter(|&seed| matches!(kind(seed), Kind::Works)) {
+    for seed in seeds(1, 9000)
+        .into_iter()
+        .filter(|&seed| matches!(kind(seed), Kind::Works))
+    {
         let case = case(seed).unwrap();
         let reply = expected(&case.request(Call::Within, Guard::None));
         if reply.refusal() != 0 {
@@ -102,8 +105,13 @@ fn works_are_nearly_right() {
         }
     }
     let all: i32 = by_number.iter().sum();
-    assert!(by_number[0] * 6 > all && by_number[1] * 6 > all, "{by_number:?}");
-    let missing: Vec<_> = (0..47).filter(|finding| !alone.contains_key(finding)).collect();
+    assert!(
+        by_number[0] * 6 > all && by_number[1] * 6 > all,
+        "{by_number:?}"
+    );
+    let missing: Vec<_> = (0..47)
+        .filter(|finding| !alone.contains_key(finding))
+        .collect();
     assert_eq!(missing, [4], "{alone:?}");
 }
 

@@ -64,7 +64,11 @@ pub fn fields(name: &[u8]) -> &'static [Field] {
             (138, 5, Pool::Share),
             (146, 5, Pool::Share),
         ],
-        b"EWT" | b"VER" => &[(20, 60, Pool::Text), (80, 11, Pool::Iswc), (91, 2, Pool::Language)],
+        b"EWT" | b"VER" => &[
+            (20, 60, Pool::Text),
+            (80, 11, Pool::Iswc),
+            (91, 2, Pool::Language),
+        ],
         b"PER" => &[(20, 45, Pool::Text), (65, 30, Pool::Text)],
         b"REC" => &[
             (20, 8, Pool::Date),
@@ -113,8 +117,15 @@ pub const NO_PUBLISHER_TYPES: [&str; 11] = [
 ];
 
 pub const TAXES: [&str; 9] = [
-    "         ", "123456789", "000000000", "12345678 ", " 12345678", "ABCDEFGHI", "12345678A",
-    "1        ", "1234/6789",
+    "         ",
+    "123456789",
+    "000000000",
+    "12345678 ",
+    " 12345678",
+    "ABCDEFGHI",
+    "12345678A",
+    "1        ",
+    "1234/6789",
 ];
 
 pub const DESIGNATIONS: [&str; 9] = ["CA", "A ", "C ", "AR", "AD", "SR", "SA", "TR", "PA"];
@@ -180,7 +191,11 @@ fn code(table: &[u8], size: usize, random: &mut Random) -> Vec<u8> {
     match random.below(12) {
         0..=3 => {}
         4 | 5 => code.fill(b' '),
-        6 => code = (0..size).map(|_| random.of(b"ABCDEFGHIJ0123456789")).collect(),
+        6 => {
+            code = (0..size)
+                .map(|_| random.of(b"ABCDEFGHIJ0123456789"))
+                .collect()
+        }
         7 => code[random.below(size)] = random.text(),
         8 => code.make_ascii_lowercase(),
         9 => code[size - 1] = b' ',
@@ -236,7 +251,16 @@ fn iswc(random: &mut Random) -> Vec<u8> {
         10 => iswc = b"T          ".to_vec(),
         11 => iswc = b"00000000000".to_vec(),
         12 => iswc.rotate_left(1),
-        _ => iswc = random.of(&[b"T0345246801", b"T0345246802", b"T0030749586", b"T0000000000"]).to_vec(),
+        _ => {
+            iswc = random
+                .of(&[
+                    b"T0345246801",
+                    b"T0345246802",
+                    b"T0030749586",
+                    b"T0000000000",
+                ])
+                .to_vec()
+        }
     }
     iswc
 }

@@ -28,7 +28,11 @@ pub fn records(lent: &Lent, random: &mut Random) -> Records {
         let mut grh = plain(named("GRH"));
         put(&mut grh, 4, kind);
         if random.one_in(60) {
-            put(&mut grh, 4, random.of(&["NWR", "REV", "ISW", "   ", "nwr", "NW "]));
+            put(
+                &mut grh,
+                4,
+                random.of(&["NWR", "REV", "ISW", "   ", "nwr", "NW "]),
+            );
         }
         records.push(grh);
         for _ in 0..random.between(1, transactions) {
@@ -140,7 +144,11 @@ fn header(name: &str, lent: &Lent, random: &mut Random) -> Vec<u8> {
         put_bytes(&mut header, 96, &right_iswc(random));
     }
     if random.one_in(4) {
-        put(&mut header, 107, random.of(&["20240229", "19991231", "00010101"]));
+        put(
+            &mut header,
+            107,
+            random.of(&["20240229", "19991231", "00010101"]),
+        );
     }
     put_bytes(&mut header, 127, &any(&lent.tables[2], 3, random));
     if &header[126..129] == b"SER" || random.one_in(3) {
@@ -281,7 +289,9 @@ pub fn give(records: &mut [Vec<u8>], right: usize, total: usize, random: &mut Ra
         b"SWR" | b"OWR" => true,
         _ => false,
     };
-    let owners: Vec<usize> = (0..records.len()).filter(|&at| owner(&records[at])).collect();
+    let owners: Vec<usize> = (0..records.len())
+        .filter(|&at| owner(&records[at]))
+        .collect();
     let mut left = total;
     for (place, &at) in owners.iter().enumerate() {
         let share = match owners.len() - place {
@@ -315,7 +325,12 @@ fn others(work: &mut Records, category_ser: bool, random: &mut Random) {
     }
     add("PER", &[(20, "AN ARTIST")], 5, random);
     add("NPR", &[], 24, random);
-    add("REC", &[(20, "00000000"), (88, "000000"), (99, "AN ALBUM")], 8, random);
+    add(
+        "REC",
+        &[(20, "00000000"), (88, "000000"), (99, "AN ALBUM")],
+        8,
+        random,
+    );
     add("REC", &[(20, "20240229"), (88, "000330")], 16, random);
     add("ORN", &[(20, "LIB")], 16, random);
     let instruments = if category_ser { 1 } else { 12 };

@@ -51,7 +51,11 @@ impl Asked {
 
     pub fn refused(&self, number: u32, place: u64) -> Reply {
         let place = place as u32;
-        Reply::new(Answer::Refused { number, place }, false, self.buffers.clone())
+        Reply::new(
+            Answer::Refused { number, place },
+            false,
+            self.buffers.clone(),
+        )
     }
 
     /// Whether the call is one of numbering.
@@ -95,7 +99,9 @@ impl Asked {
         let mut sets: Vec<u64> = (0..lines.len()).map(|record| right.set(record)).collect();
         for at in 0..lines.len() {
             if classes[at] == Class::Header {
-                let details = classes[at + 1..].iter().take_while(|&&c| c == Class::Detail);
+                let details = classes[at + 1..]
+                    .iter()
+                    .take_while(|&&c| c == Class::Detail);
                 let end = at + 1 + details.count();
                 change(self, &records[at..end], &mut sets[at..end]);
             }

@@ -77,7 +77,10 @@ fn totals_in(asked: &Asked, bits: u32) -> Reply {
     asked.judged(|asked, work, sets| {
         let lost = |value: u64| value & ((1 << bits) - 1);
         let mut totals = [[0; 3]; 2];
-        for record in work.iter().filter(|r| is(r, &PUBLISHERS) || is(r, &WRITERS)) {
+        for record in work
+            .iter()
+            .filter(|r| is(r, &PUBLISHERS) || is(r, &WRITERS))
+        {
             let total = &mut totals[usize::from(is(record, &WRITERS))];
             for (sum, start) in total.iter_mut().zip(starts(record)) {
                 *sum = lost(*sum + share(record, start));
@@ -145,7 +148,9 @@ pub const FAULTS: &[Fault] = &[
         on_header(asked, 19, |work| iswc_without_1(work[0]))
     }),
     ("opu-blank-type-none", |asked| {
-        asked.as_if(&[11, 14], |record| replace(record, &["OPU"], 77, "  ", "PA"))
+        asked.as_if(&[11, 14], |record| {
+            replace(record, &["OPU"], 77, "  ", "PA")
+        })
     }),
     // Each finding once.
     ("0-second-header", |asked| {
@@ -164,7 +169,9 @@ pub const FAULTS: &[Fault] = &[
     }),
     ("1-writers-too", |asked| {
         asked.judged(|asked, work, sets| {
-            let owners = work.iter().filter(|r| is(r, &PUBLISHERS) || is(r, &WRITERS));
+            let owners = work
+                .iter()
+                .filter(|r| is(r, &PUBLISHERS) || is(r, &WRITERS));
             let mr: u64 = owners.map(|record| share(record, starts(record)[1])).sum();
             sets[0] |= u64::from(mr > 10_000 + asked.tolerance()) << 1;
         })
@@ -196,13 +203,17 @@ pub const FAULTS: &[Fault] = &[
     }),
     ("3-at-the-limit", |asked| {
         asked.judged(|asked, work, sets| {
-            let owners = work.iter().filter(|r| is(r, &PUBLISHERS) || is(r, &WRITERS));
+            let owners = work
+                .iter()
+                .filter(|r| is(r, &PUBLISHERS) || is(r, &WRITERS));
             let pr: u64 = owners.map(|record| share(record, starts(record)[0])).sum();
             sets[0] |= u64::from(pr == 10_000 - asked.tolerance()) << 3;
         })
     }),
     ("4-without-owr", |asked| {
-        on_header(asked, 4, |work| !work.iter().any(|record| is(record, &["SWR"])))
+        on_header(asked, 4, |work| {
+            !work.iter().any(|record| is(record, &["SWR"]))
+        })
     }),
     ("5-pa", |asked| {
         asked.as_if(&[5], |record| replace(record, &WRITERS, 105, "PA", "C "))
@@ -237,9 +248,7 @@ pub const FAULTS: &[Fault] = &[
     }),
     ("8-npr-needs-per", |asked| {
         asked.judged(|_, work, sets| {
-            let pair = |pair: &[&[u8]]| {
-                !is(pair[0], &["PER", "NPR"]) && is(pair[1], &["NPR"])
-            };
+            let pair = |pair: &[&[u8]]| !is(pair[0], &["PER", "NPR"]) && is(pair[1], &["NPR"]);
             sets[0] |= u64::from(work.windows(2).any(pair)) << 8;
         })
     }),
@@ -329,7 +338,10 @@ pub const FAULTS: &[Fault] = &[
     }),
     ("15-together", |asked| {
         on_header(asked, 15, |work| {
-            work.iter().filter(|record| is(record, &["EWT", "VER"])).count() > 1
+            work.iter()
+                .filter(|record| is(record, &["EWT", "VER"]))
+                .count()
+                > 1
         })
     }),
     ("16-first-half", |asked| {
@@ -356,7 +368,9 @@ pub const FAULTS: &[Fault] = &[
         asked.as_if(&[19], |record| replace(record, &HEADERS, 96, "t", "T"))
     }),
     ("20-blank", |asked| {
-        asked.as_if(&[20], |record| replace(record, &HEADERS, 107, "        ", "00000000"))
+        asked.as_if(&[20], |record| {
+            replace(record, &HEADERS, 107, "        ", "00000000")
+        })
     }),
     ("20-leap-years", |asked| {
         asked.as_if(&[20, 45], |record| {
@@ -365,7 +379,9 @@ pub const FAULTS: &[Fault] = &[
         })
     }),
     ("20-year-0", |asked| {
-        asked.as_if(&[20], |record| replace(record, &HEADERS, 107, "00000101", "00010101"))
+        asked.as_if(&[20], |record| {
+            replace(record, &HEADERS, 107, "00000101", "00010101")
+        })
     }),
     ("21-blank-entry", |asked| {
         asked.judged(|asked, work, sets| {
@@ -375,7 +391,9 @@ pub const FAULTS: &[Fault] = &[
         })
     }),
     ("22-zero", |asked| {
-        asked.as_if(&[22], |record| replace(record, &HEADERS, 130, "000000", "000001"))
+        asked.as_if(&[22], |record| {
+            replace(record, &HEADERS, 130, "000000", "000001")
+        })
     }),
     ("22-table", |asked| {
         // SER only where the lent table has it.
@@ -389,12 +407,18 @@ pub const FAULTS: &[Fault] = &[
         asked.as_if(&[23], |record| replace(record, &HEADERS, 127, "SER", "POP"))
     }),
     ("23-hours", |asked| {
-        asked.as_if(&[23], |record| replace(record, &HEADERS, 130, "995959", "      "))
+        asked.as_if(&[23], |record| {
+            replace(record, &HEADERS, 130, "995959", "      ")
+        })
     }),
-    ("24-without-msg", |asked| flip(asked, 24, false, |record| is(record, &["MSG"]))),
+    ("24-without-msg", |asked| {
+        flip(asked, 24, false, |record| is(record, &["MSG"]))
+    }),
     ("25-again-from-01", |asked| {
         asked.judged(|_, work, sets| {
-            let publishers: Vec<_> = (0..work.len()).filter(|&at| is(work[at], &PUBLISHERS)).collect();
+            let publishers: Vec<_> = (0..work.len())
+                .filter(|&at| is(work[at], &PUBLISHERS))
+                .collect();
             for pair in publishers.windows(2) {
                 let digits = part(work[pair[0]], 20, 2).iter().all(u8::is_ascii_digit);
                 if !digits && part(work[pair[1]], 20, 2) == b"01" {
@@ -406,7 +430,9 @@ pub const FAULTS: &[Fault] = &[
     ("25-round", |asked| {
         // 00 after 99.
         asked.judged(|_, work, sets| {
-            let publishers: Vec<_> = (0..work.len()).filter(|&at| is(work[at], &PUBLISHERS)).collect();
+            let publishers: Vec<_> = (0..work.len())
+                .filter(|&at| is(work[at], &PUBLISHERS))
+                .collect();
             for pair in publishers.windows(2) {
                 if part(work[pair[0]], 20, 2) == b"99" && part(work[pair[1]], 20, 2) == b"00" {
                     sets[pair[1]] &= !(1 << 25);
@@ -415,21 +441,33 @@ pub const FAULTS: &[Fault] = &[
         })
     }),
     ("26-opu-too", |asked| {
-        flip(asked, 26, true, |record| is(record, &["OPU"]) && blank(record, 22, 9))
+        flip(asked, 26, true, |record| {
+            is(record, &["OPU"]) && blank(record, 22, 9)
+        })
     }),
-    ("27-without-opu", |asked| flip(asked, 27, false, |record| is(record, &["OPU"]))),
+    ("27-without-opu", |asked| {
+        flip(asked, 27, false, |record| is(record, &["OPU"]))
+    }),
     ("27-spu-indicator", |asked| {
-        flip(asked, 27, false, |record| is(record, &["SPU"]) && record[75] == b'Y')
+        flip(asked, 27, false, |record| {
+            is(record, &["SPU"]) && record[75] == b'Y'
+        })
     }),
     ("28-pa", |asked| {
-        flip(asked, 28, true, |record| is(record, &["SPU"]) && part(record, 77, 2) == b"PA")
+        flip(asked, 28, true, |record| {
+            is(record, &["SPU"]) && part(record, 77, 2) == b"PA"
+        })
     }),
     ("28-one-letter", |asked| {
         // The letter E, whatever follows.
-        flip(asked, 28, false, |record| is(record, &["SPU"]) && record[76] == b'E')
+        flip(asked, 28, false, |record| {
+            is(record, &["SPU"]) && record[76] == b'E'
+        })
     }),
     ("29-n", |asked| {
-        flip(asked, 29, false, |record| is(record, &["SPU"]) && record[75] == b'N')
+        flip(asked, 29, false, |record| {
+            is(record, &["SPU"]) && record[75] == b'N'
+        })
     }),
     ("30-pr-10000", |asked| {
         asked.as_if(&[30], |record| {
@@ -439,7 +477,9 @@ pub const FAULTS: &[Fault] = &[
         })
     }),
     ("30-blank", |asked| {
-        asked.as_if(&[30], |record| replace(record, &PUBLISHERS, 124, "     ", "00000"))
+        asked.as_if(&[30], |record| {
+            replace(record, &PUBLISHERS, 124, "     ", "00000")
+        })
     }),
     ("31-before-defaults", |asked| {
         asked.judged(|_, work, sets| {
@@ -454,7 +494,9 @@ pub const FAULTS: &[Fault] = &[
     ("32-after-opu", |asked| {
         asked.judged(|_, work, sets| {
             for chain in chains(work) {
-                let opu = chain.iter().position(|&at| is(work[at], &["OPU"]) && is_e(work[at]));
+                let opu = chain
+                    .iter()
+                    .position(|&at| is(work[at], &["OPU"]) && is_e(work[at]));
                 if let Some(opu) = opu {
                     for &at in &chain[opu..] {
                         sets[at] &= !(1 << 32);
@@ -469,13 +511,19 @@ pub const FAULTS: &[Fault] = &[
         })
     }),
     ("33-u", |asked| {
-        flip(asked, 33, false, |record| is(record, &["OPU"]) && record[75] == b'U')
+        flip(asked, 33, false, |record| {
+            is(record, &["OPU"]) && record[75] == b'U'
+        })
     }),
     ("34-without-name", |asked| {
-        flip(asked, 34, true, |record| is(record, &["OPU"]) && record[75] == b'Y')
+        flip(asked, 34, true, |record| {
+            is(record, &["OPU"]) && record[75] == b'Y'
+        })
     }),
     ("35-blank", |asked| {
-        flip(asked, 35, false, |record| is(record, &["OPU"]) && blank(record, 77, 2))
+        flip(asked, 35, false, |record| {
+            is(record, &["OPU"]) && blank(record, 77, 2)
+        })
     }),
     ("36-pr-only", |asked| {
         asked.as_if(&[36], |record| {
@@ -489,18 +537,25 @@ pub const FAULTS: &[Fault] = &[
         asked.as_if(&[37], |record| {
             if is(record, &PUBLISHERS) {
                 let tax = record[78..87].iter_mut();
-                tax.filter(|byte| **byte == b' ').for_each(|byte| *byte = b'0');
+                tax.filter(|byte| **byte == b' ')
+                    .for_each(|byte| *byte = b'0');
             }
         })
     }),
     ("38-owr-too", |asked| {
-        flip(asked, 38, true, |record| is(record, &["OWR"]) && blank(record, 29, 45))
+        flip(asked, 38, true, |record| {
+            is(record, &["OWR"]) && blank(record, 29, 45)
+        })
     }),
     ("39-blank", |asked| {
-        flip(asked, 39, false, |record| is(record, &["SWR"]) && blank(record, 105, 2))
+        flip(asked, 39, false, |record| {
+            is(record, &["SWR"]) && blank(record, 105, 2)
+        })
     }),
     ("40-blank", |asked| {
-        flip(asked, 40, true, |record| is(record, &["OWR"]) && blank(record, 105, 2))
+        flip(asked, 40, true, |record| {
+            is(record, &["OWR"]) && blank(record, 105, 2)
+        })
     }),
     ("41-within-tolerance", |asked| {
         asked.as_if(&[41], |record| {
@@ -512,15 +567,23 @@ pub const FAULTS: &[Fault] = &[
         })
     }),
     ("42-owr-too", |asked| {
-        flip(asked, 42, true, |record| is(record, &["OWR"]) && blank(record, 20, 9))
+        flip(asked, 42, true, |record| {
+            is(record, &["OWR"]) && blank(record, 20, 9)
+        })
     }),
-    ("43-without-per", |asked| flip(asked, 43, false, |record| is(record, &["PER"]))),
+    ("43-without-per", |asked| {
+        flip(asked, 43, false, |record| is(record, &["PER"]))
+    }),
     ("43-per-60", |asked| {
         // As many bytes as for a title.
-        flip(asked, 43, false, |record| is(record, &["PER"]) && !blank(record, 20, 60))
+        flip(asked, 43, false, |record| {
+            is(record, &["PER"]) && !blank(record, 20, 60)
+        })
     }),
     ("44-looks-at-94", |asked| {
-        flip(asked, 44, false, |record| is(record, &["REC"]) && !blank(record, 94, 5))
+        flip(asked, 44, false, |record| {
+            is(record, &["REC"]) && !blank(record, 94, 5)
+        })
     }),
     ("44-before-defaults", |asked| {
         flip(asked, 44, false, |record| {
@@ -535,12 +598,18 @@ pub const FAULTS: &[Fault] = &[
         })
     }),
     ("45-blank", |asked| {
-        asked.as_if(&[45], |record| replace(record, &["REC"], 20, "        ", "00000000"))
+        asked.as_if(&[45], |record| {
+            replace(record, &["REC"], 20, "        ", "00000000")
+        })
     }),
     ("46-60-seconds", |asked| {
-        asked.as_if(&[46], |record| replace(record, &["REC"], 88, "000060", "000059"))
+        asked.as_if(&[46], |record| {
+            replace(record, &["REC"], 88, "000060", "000059")
+        })
     }),
     ("46-blank", |asked| {
-        asked.as_if(&[46], |record| replace(record, &["REC"], 88, "      ", "000000"))
+        asked.as_if(&[46], |record| {
+            replace(record, &["REC"], 88, "      ", "000000")
+        })
     }),
 ];

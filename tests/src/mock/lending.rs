@@ -81,16 +81,22 @@ pub const FAULTS: &[Fault] = &[
         }),
         _ => asked.right(),
     }),
-    ("tolerance-always-6", |asked| match (asked.call, asked.number) {
-        (Call::Within, 0..=5) => asked.with(|request| request.number = 6),
-        _ => asked.right(),
+    ("tolerance-always-6", |asked| {
+        match (asked.call, asked.number) {
+            (Call::Within, 0..=5) => asked.with(|request| request.number = 6),
+            _ => asked.right(),
+        }
     }),
     ("two-before-one", |asked| {
         let right = asked.right();
         match right.refusal() {
             1 => {
                 let other = asked.with(|request| request.number = 6);
-                if other.refusal() == 2 { other } else { right }
+                if other.refusal() == 2 {
+                    other
+                } else {
+                    right
+                }
             }
             _ => right,
         }
@@ -100,7 +106,11 @@ pub const FAULTS: &[Fault] = &[
         match right.refusal() {
             2 => {
                 let other = asked.with(|request| request.tables = Default::default());
-                if (3..=9).contains(&other.refusal()) { other } else { right }
+                if (3..=9).contains(&other.refusal()) {
+                    other
+                } else {
+                    right
+                }
             }
             _ => right,
         }
@@ -150,7 +160,9 @@ pub const FAULTS: &[Fault] = &[
         })
     }),
     ("lookup-unaligned", |asked| {
-        looked_up(asked, |code, table| table.windows(code.len()).any(|part| part == code))
+        looked_up(asked, |code, table| {
+            table.windows(code.len()).any(|part| part == code)
+        })
     }),
     ("lookup-first-entry", |asked| {
         looked_up(asked, |code, table| table.starts_with(code))
@@ -162,7 +174,9 @@ pub const FAULTS: &[Fault] = &[
     }),
     ("lookup-any-case", |asked| {
         looked_up(asked, |code, table| {
-            table.chunks_exact(code.len()).any(|entry| entry.eq_ignore_ascii_case(code))
+            table
+                .chunks_exact(code.len())
+                .any(|entry| entry.eq_ignore_ascii_case(code))
         })
     }),
     ("lookup-sorted", |asked| {
@@ -172,7 +186,9 @@ pub const FAULTS: &[Fault] = &[
             entries.binary_search(&code).is_ok()
         })
     }),
-    ("tables-exchanged", |asked| asked.with(|request| request.tables.swap(1, 2))),
+    ("tables-exchanged", |asked| {
+        asked.with(|request| request.tables.swap(1, 2))
+    }),
     ("short-verdicts", |asked| {
         let right = asked.right();
         match right.refusal() {
@@ -253,7 +269,9 @@ pub const FAULTS: &[Fault] = &[
     ("sets-backwards", |asked| {
         let mut right = asked.right();
         if let Some(records) = judged_records(asked, &right) {
-            right.buffers[1][..8 * records].chunks_mut(8).for_each(<[u8]>::reverse);
+            right.buffers[1][..8 * records]
+                .chunks_mut(8)
+                .for_each(<[u8]>::reverse);
         }
         right
     }),

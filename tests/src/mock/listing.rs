@@ -34,7 +34,9 @@ pub const FAULTS: &[ListingFault] = &[
     ("listing-two-spaces", |input| with(input, " 0 -", " 0  -")),
     ("listing-from-1", |input| {
         lines(input, |words| {
-            let number = words[0].parse::<u64>().map(|number| (number + 1).to_string());
+            let number = words[0]
+                .parse::<u64>()
+                .map(|number| (number + 1).to_string());
             if let Ok(number) = number {
                 words[0] = number.leak();
             }

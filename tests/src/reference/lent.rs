@@ -24,7 +24,11 @@ pub fn refusal_1(tolerance: u64) -> Result<(), Refusal> {
 /// "A table's length is no multiple of its entry size, or it has over 1,024
 /// entries": the first such table.
 pub fn refusal_2(tables: &Tables) -> Result<(), Refusal> {
-    let sized = [(tables.languages, 2), (tables.societies, 3), (tables.categories, 3)];
+    let sized = [
+        (tables.languages, 2),
+        (tables.societies, 3),
+        (tables.categories, 3),
+    ];
     for (place, (table, size)) in sized.into_iter().enumerate() {
         if table.len() % size != 0 || table.len() / size > MOST_ENTRIES {
             return Err(refused(2, place));

@@ -33,9 +33,11 @@ pub fn in_table(code: &[u8], table: &[u8]) -> bool {
 
 /// A month 1 to 12 and a day of that month, Gregorian, year 1 or later.
 pub fn valid_date(field: &[u8]) -> bool {
-    let (Some(year), Some(month), Some(day)) =
-        (digits(&field[..4]), digits(&field[4..6]), digits(&field[6..8]))
-    else {
+    let (Some(year), Some(month), Some(day)) = (
+        digits(&field[..4]),
+        digits(&field[4..6]),
+        digits(&field[6..8]),
+    ) else {
         return false;
     };
     let leap = year % 4 == 0 && (year % 100 != 0 || year % 400 == 0);
@@ -51,9 +53,11 @@ pub fn valid_date(field: &[u8]) -> bool {
 
 /// Six digits, minutes and seconds at most 59.
 pub fn valid_duration(field: &[u8]) -> bool {
-    let (Some(_hours), Some(minutes), Some(seconds)) =
-        (digits(&field[..2]), digits(&field[2..4]), digits(&field[4..6]))
-    else {
+    let (Some(_hours), Some(minutes), Some(seconds)) = (
+        digits(&field[..2]),
+        digits(&field[2..4]),
+        digits(&field[4..6]),
+    ) else {
         return false;
     };
     minutes <= 59 && seconds <= 59

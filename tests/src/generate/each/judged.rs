@@ -95,10 +95,14 @@ fn header_fields(all: &mut Vec<Case>) {
     add(all, "ISWC", 6, works);
 
     let mut works = Vec::new();
-    for code in ["EN", "FR", "DE", "NF", "RD", "E ", " E", "  ", "en", "XX", "E\u{7f}"] {
+    for code in [
+        "EN", "FR", "DE", "NF", "RD", "E ", " E", "  ", "en", "XX", "E\u{7f}",
+    ] {
         works.push(headed(80, code));
     }
-    for code in ["POP", "JAZ", "SER", "OPJ", "PJA", "   ", "PO ", "pop", "XXX"] {
+    for code in [
+        "POP", "JAZ", "SER", "OPJ", "PJA", "   ", "PO ", "pop", "XXX",
+    ] {
         works.push(headed(127, code));
     }
     add(all, "code", 6, works);
@@ -107,7 +111,9 @@ fn header_fields(all: &mut Vec<Case>) {
 /// Each field blank between entered neighbours, then entered in its first and
 /// its last byte alone.
 fn edges(all: &mut Vec<Case>) {
-    for name in ["NWR", "SPU", "OPU", "SWR", "OWR", "EWT", "VER", "PER", "REC"] {
+    for name in [
+        "NWR", "SPU", "OPU", "SWR", "OWR", "EWT", "VER", "PER", "REC",
+    ] {
         let mut works = Vec::new();
         for &(start, size, _) in fields(name.as_bytes()) {
             for form in 0..4 {
@@ -268,7 +274,12 @@ fn publisher_types(all: &mut Vec<Case>) {
                     }
                 }
             }
-            add(all, &format!("publisher type of {name}, share {share}"), 6, works);
+            add(
+                all,
+                &format!("publisher type of {name}, share {share}"),
+                6,
+                works,
+            );
         }
     }
 }
@@ -292,7 +303,9 @@ fn indicators(all: &mut Vec<Case>) {
             works.push(work);
         }
         for start in [113, 121, 129] {
-            for society in ["035", "044", "058", "350", "503", "   ", "35 ", " 35", "999"] {
+            for society in [
+                "035", "044", "058", "350", "503", "   ", "35 ", " 35", "999",
+            ] {
                 let mut work = plain_work();
                 work.insert(1, publisher(name, "E ", [0, 0, 1]));
                 put(&mut work[1], start, society);
@@ -325,14 +338,19 @@ fn sequences(all: &mut Vec<Case>) {
     // All numbers in a row, and past the last.
     let mut texts: Vec<_> = (1..=99).map(|number| format!("{number:02}")).collect();
     texts.extend(["99", "00", "01", "0A", "01", "02"].map(String::from));
-    let row: Vec<_> = texts.iter().map(|text| ("SPU", text.as_str(), "E ", 1)).collect();
+    let row: Vec<_> = texts
+        .iter()
+        .map(|text| ("SPU", text.as_str(), "E ", 1))
+        .collect();
     add(all, "sequence in a row", 6, vec![chain(&row)]);
 }
 
 /// Chains by their number, together or not.
 fn chains(all: &mut Vec<Case>) {
     let mut works = Vec::new();
-    let forms = ["SPU E ", "SPU AQ", "SPU AM", "SPU XX", "OPU E ", "OPU   ", "OPU AM", "OPU AQ"];
+    let forms = [
+        "SPU E ", "SPU AQ", "SPU AM", "SPU XX", "OPU E ", "OPU   ", "OPU AM", "OPU AQ",
+    ];
     for first in forms {
         for second in forms {
             for (numbers, shares) in [
@@ -393,7 +411,10 @@ fn titles(all: &mut Vec<Case>) {
 
 /// The types of details, by the order of the table.
 fn details() -> impl Iterator<Item = &'static str> {
-    TYPES.iter().filter(|row| row.class == Class::Detail).map(|row| row.name)
+    TYPES
+        .iter()
+        .filter(|row| row.class == Class::Detail)
+        .map(|row| row.name)
 }
 
 /// Each detail after each other.
@@ -447,7 +468,12 @@ fn leaders(all: &mut Vec<Case>) {
 
 /// Groups of works of one type and the other.
 fn groups(all: &mut Vec<Case>) {
-    for (first, second) in [("NWR", "REV"), ("REV", "NWR"), ("ISW", "NWR"), ("   ", "nwr")] {
+    for (first, second) in [
+        ("NWR", "REV"),
+        ("REV", "NWR"),
+        ("ISW", "NWR"),
+        ("   ", "nwr"),
+    ] {
         for odd in 0..4 {
             let mut records = file(first, vec![plain_work(); 3]);
             let mut group = file(second, vec![plain_work(); 2]);

@@ -27,8 +27,23 @@ fn tables(all: &mut Vec<Case>) {
     for (which, size) in SIZES.into_iter().enumerate() {
         let full = size * 1024;
         for length in [
-            0, 1, 2, 3, 4, 5, 6, 7, full - size, full - 1, full, full + 1, full + size - 1,
-            full + size, 2 * full, 65_536, 65_536 + size,
+            0,
+            1,
+            2,
+            3,
+            4,
+            5,
+            6,
+            7,
+            full - size,
+            full - 1,
+            full,
+            full + 1,
+            full + size - 1,
+            full + size,
+            2 * full,
+            65_536,
+            65_536 + size,
         ] {
             let mut work = plain_work();
             work[0][79..81].copy_from_slice(b"EN");
@@ -88,7 +103,13 @@ fn sets(all: &mut Vec<Case>) {
     let below = (0..64).map(|finding| u64::MAX >> finding);
     let without = (0..64).map(|finding| !(1 << finding));
     let any: Vec<u64> = (0..200).map(|_| random.draw() & random.draw()).collect();
-    for set in single.chain(from).chain(below).chain(without).chain(any).chain([0]) {
+    for set in single
+        .chain(from)
+        .chain(below)
+        .chain(without)
+        .chain(any)
+        .chain([0])
+    {
         let kind = format!("each set: {set:#x}");
         add_with(all, kind, Vec::new(), &[Call::Bits]).set = set;
     }
@@ -109,7 +130,10 @@ fn inputs(all: &mut Vec<Case>) {
         add(&format!("file A, filled up to {length}"), input);
     }
     for length in [65_534, 65_536, 65_538] {
-        add(&format!("{length} bytes of empty lines"), b"\r\n".repeat(length / 2));
+        add(
+            &format!("{length} bytes of empty lines"),
+            b"\r\n".repeat(length / 2),
+        );
     }
     // A right file of exactly the most bytes that are read, and one more:
     // TER has 26 bytes with its end, IND 27.
@@ -130,6 +154,9 @@ fn inputs(all: &mut Vec<Case>) {
         let group = &group[1..group.len() - 1];
         records.splice(1..3, std::iter::repeat_n(group, groups).flatten().cloned());
         number(&mut records);
-        add(&format!("{groups} groups of {transactions}"), join(&records));
+        add(
+            &format!("{groups} groups of {transactions}"),
+            join(&records),
+        );
     }
 }

@@ -12,7 +12,8 @@ const ALL: [fn(&Transaction) -> bool; 8] = [
 
 pub fn set(transaction: &Transaction) -> u64 {
     let bits = ALL.iter().zip(16..);
-    bits.map(|(holds, finding)| bit(finding, holds(transaction))).sum()
+    bits.map(|(holds, finding)| bit(finding, holds(transaction)))
+        .sum()
 }
 
 /// N1, TR: title blank.

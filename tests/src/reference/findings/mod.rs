@@ -96,7 +96,9 @@ pub fn sets(lines: &[Line], classes: &[Class], tables: Tables, tolerance: u64) -
             continue;
         }
         let header = lines[at].text;
-        let details = classes[at + 1..].iter().take_while(|&&c| c == Class::Detail);
+        let details = classes[at + 1..]
+            .iter()
+            .take_while(|&&c| c == Class::Detail);
         let end = at + 1 + details.count();
         let details = lines[at + 1..end].iter().map(|line| line.text).collect();
         let transaction = Transaction::new(tables, tolerance, group_type, header, details);
@@ -113,5 +115,7 @@ pub fn count(set: u64) -> u32 {
 
 /// The lowest finding in a set; 64 for none.
 pub fn lowest(set: u64) -> u32 {
-    (0..64).find(|finding| set >> finding & 1 == 1).unwrap_or(64)
+    (0..64)
+        .find(|finding| set >> finding & 1 == 1)
+        .unwrap_or(64)
 }

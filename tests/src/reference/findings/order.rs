@@ -9,10 +9,7 @@ struct Stage {
     parts: &'static [&'static [&'static [u8; 3]]],
 }
 
-const fn stage(
-    leader: &'static [u8; 3],
-    parts: &'static [&'static [&'static [u8; 3]]],
-) -> Stage {
+const fn stage(leader: &'static [u8; 3], parts: &'static [&'static [&'static [u8; 3]]]) -> Stage {
     Stage { leader, parts }
 }
 
@@ -47,7 +44,9 @@ type Place = (usize, usize);
 /// The place of a part's type in a stage.
 fn part(stage: usize, name: &[u8]) -> Option<usize> {
     let parts = STAGES[stage].parts;
-    let found = parts.iter().position(|part| part.iter().any(|one| *one == name));
+    let found = parts
+        .iter()
+        .position(|part| part.iter().any(|one| *one == name));
     found.map(|part| part + 1)
 }
 

@@ -16,7 +16,8 @@ const ALL: [fn(&Transaction) -> bool; 16] = [
 
 pub fn set(transaction: &Transaction) -> u64 {
     let bits = ALL.iter().enumerate();
-    bits.map(|(finding, holds)| bit(finding as u32, holds(transaction))).sum()
+    bits.map(|(finding, holds)| bit(finding as u32, holds(transaction)))
+        .sum()
 }
 
 /// PR, MR and SR together of all these shares.
@@ -27,7 +28,12 @@ fn total(shares: impl Iterator<Item = [u64; 3]>) -> [u64; 3] {
 }
 
 fn of_publishers(transaction: &Transaction) -> [u64; 3] {
-    total(transaction.publishers.iter().map(|publisher| publisher.shares))
+    total(
+        transaction
+            .publishers
+            .iter()
+            .map(|publisher| publisher.shares),
+    )
 }
 
 fn of_writers(transaction: &Transaction) -> [u64; 3] {
@@ -71,7 +77,10 @@ fn finding_4(transaction: &Transaction) -> bool {
 /// Whether a writer has one of these designations.
 fn has_writer(transaction: &Transaction, designations: &[&[u8; 2]]) -> bool {
     let wanted = |of: &[u8]| designations.iter().any(|one| *one == of);
-    transaction.writers.iter().any(|writer| wanted(writer.designation()))
+    transaction
+        .writers
+        .iter()
+        .any(|writer| wanted(writer.designation()))
 }
 
 /// Those of 6 and 7.

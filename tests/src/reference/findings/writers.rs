@@ -19,7 +19,9 @@ pub struct Writer<'a> {
 
 /// The writer records among a transaction's details.
 pub fn of<'a>(details: &[&'a [u8]]) -> Vec<Writer<'a>> {
-    let writers = details.iter().filter(|text| matches!(&text[..3], b"SWR" | b"OWR"));
+    let writers = details
+        .iter()
+        .filter(|text| matches!(&text[..3], b"SWR" | b"OWR"));
     let writer = |text: &&'a [u8]| Writer {
         text,
         shares: shares(text, SHARES).map(|share| share.unwrap_or(0)),
@@ -40,7 +42,9 @@ impl<'a> Writer<'a> {
     }
 
     fn known_designation(&self) -> bool {
-        DESIGNATIONS.iter().any(|known| *known == self.designation())
+        DESIGNATIONS
+            .iter()
+            .any(|known| *known == self.designation())
     }
 
     pub fn set(&self) -> u64 {
@@ -69,7 +73,9 @@ impl<'a> Writer<'a> {
     /// TR: share not five digits or over 10000.
     fn finding_41(&self) -> bool {
         let shares = shares(self.text, SHARES);
-        shares.iter().any(|share| share.is_none_or(|share| share > FULL))
+        shares
+            .iter()
+            .any(|share| share.is_none_or(|share| share > FULL))
     }
 
     /// TR: SWR party number blank.

@@ -70,7 +70,11 @@ fn finding_1() {
 #[test]
 fn finding_2() {
     let totals = |tolerance, shares: [u32; 3]| {
-        let work = [nwr(""), writer("SWR", shares, &[]), writer("OWR", [0; 3], &[])];
+        let work = [
+            nwr(""),
+            writer("SWR", shares, &[]),
+            writer("OWR", [0; 3], &[]),
+        ];
         judge_within(tolerance, &work)[0].contains(&2)
     };
     assert!(!totals(6, [0, 0, 0]));
@@ -113,7 +117,10 @@ fn totals_take_what_is_no_share_for_0() {
     assert_eq!(judge(&work("     "))[0], none());
     assert_eq!(judge(&work("00500"))[0], [2, 3]);
     // Beyond its limit a share counts in full.
-    assert_eq!(judge(&[nwr(""), writer("SWR", [99_999; 3], &[])])[0], [2, 3]);
+    assert_eq!(
+        judge(&[nwr(""), writer("SWR", [99_999; 3], &[])])[0],
+        [2, 3]
+    );
 }
 
 #[test]
@@ -121,8 +128,15 @@ fn finding_4_and_5() {
     assert_eq!(judge(&[nwr("")])[0], [4, 5]);
     assert_eq!(judge(&[header(&[(143, "MOD")])])[0], [4, 5, 6]);
     for (designation, right) in [
-        ("CA", true), ("A ", true), ("C ", true), ("AR", false), ("PA", false), ("TR", false),
-        ("  ", false), (" C", false), ("CC", false),
+        ("CA", true),
+        ("A ", true),
+        ("C ", true),
+        ("AR", false),
+        ("PA", false),
+        ("TR", false),
+        ("  ", false),
+        (" C", false),
+        ("CC", false),
     ] {
         let work = [nwr(""), writer("OWR", [10_000; 3], &[(105, designation)])];
         assert_eq!(judge(&work)[0].contains(&5), !right, "{designation}");
@@ -133,8 +147,16 @@ fn finding_4_and_5() {
 #[test]
 fn finding_6_and_7() {
     for (designation, adapter) in [
-        ("AR", true), ("AD", true), ("SR", true), ("SA", true), ("TR", true), ("CA", false),
-        ("A ", false), ("C ", false), ("PA", false), ("  ", false),
+        ("AR", true),
+        ("AD", true),
+        ("SR", true),
+        ("SA", true),
+        ("TR", true),
+        ("CA", false),
+        ("A ", false),
+        ("C ", false),
+        ("PA", false),
+        ("  ", false),
     ] {
         let findings = |version: &str| {
             let other = writer("OWR", [0; 3], &[(105, designation)]);
@@ -165,8 +187,15 @@ fn finding_9() {
 #[test]
 fn finding_10() {
     for (designation, words) in [
-        ("CA", true), ("A ", true), ("SA", true), ("TR", true), ("C ", false), ("AR", false),
-        ("AD", false), ("SR", false), ("PA", false),
+        ("CA", true),
+        ("A ", true),
+        ("SA", true),
+        ("TR", true),
+        ("C ", false),
+        ("AR", false),
+        ("AD", false),
+        ("SR", false),
+        ("PA", false),
     ] {
         let work = |relationship: &str| {
             let other = writer("OWR", [0; 3], &[(105, designation)]);
@@ -198,7 +227,11 @@ fn finding_11() {
     let spus = [("SPU", "01", "  ", 0), ("SPU", "01", "E ", 1)];
     assert!(!chain(&spus)[0].contains(&11));
     // They need not stand together.
-    let apart = [("SPU", "01", "E ", 1), ("SPU", "02", "E ", 1), ("SPU", "01", "E ", 1)];
+    let apart = [
+        ("SPU", "01", "E ", 1),
+        ("SPU", "02", "E ", 1),
+        ("SPU", "01", "E ", 1),
+    ];
     assert!(chain(&apart)[0].contains(&11));
 }
 
@@ -215,7 +248,11 @@ fn finding_12() {
     // Any of the three rights, any of the chain's records.
     let sr = publisher("SPU", [0, 0, 1], &[]);
     assert!(!with(&[sr])[0].contains(&12));
-    let later = [("SPU", "01", "PA", 0), ("SPU", "01", "E ", 0), ("SPU", "01", "AQ", 1)];
+    let later = [
+        ("SPU", "01", "PA", 0),
+        ("SPU", "01", "E ", 0),
+        ("SPU", "01", "AQ", 1),
+    ];
     assert!(!chain(&later)[0].contains(&12));
     // OPU shares don't count, and an OPU's chain is not asked.
     assert!(chain(&[("SPU", "01", "E ", 0), ("OPU", "01", "E ", 1)])[0].contains(&12));
@@ -241,10 +278,15 @@ fn finding_13() {
 
 #[test]
 fn finding_14() {
-    let two = |first: (&'static str, &'static str, u32), second: (&'static str, &'static str, u32)| {
+    let two = |first: (&'static str, &'static str, u32),
+               second: (&'static str, &'static str, u32)| {
         let (name, kind, share) = first;
         let (other, other_kind, other_share) = second;
-        chain(&[(name, "01", kind, share), (other, "01", other_kind, other_share)])[0].contains(&14)
+        chain(&[
+            (name, "01", kind, share),
+            (other, "01", other_kind, other_share),
+        ])[0]
+            .contains(&14)
     };
     assert!(two(("SPU", "E ", 1), ("SPU", "AQ", 1)));
     assert!(!two(("SPU", "E ", 0), ("SPU", "AQ", 1)));
@@ -255,9 +297,17 @@ fn finding_14() {
     assert!(two(("OPU", "  ", 1), ("SPU", "AQ", 0)));
     assert!(!two(("OPU", "AM", 1), ("SPU", "AQ", 0)));
     // Any earlier one of the chain.
-    let three = [("SPU", "01", "E ", 1), ("SPU", "01", "E ", 0), ("SPU", "01", "AQ", 0)];
+    let three = [
+        ("SPU", "01", "E ", 1),
+        ("SPU", "01", "E ", 0),
+        ("SPU", "01", "AQ", 0),
+    ];
     assert!(chain(&three)[0].contains(&14));
-    let other = [("SPU", "02", "E ", 1), ("SPU", "01", "E ", 0), ("SPU", "01", "AQ", 1)];
+    let other = [
+        ("SPU", "02", "E ", 1),
+        ("SPU", "01", "E ", 0),
+        ("SPU", "01", "AQ", 1),
+    ];
     assert!(!chain(&other)[0].contains(&14));
     // A share that isn't five digits counts 0.
     let e = publisher("SPU", [0; 3], &[(116, "0000A")]);
@@ -303,7 +353,10 @@ fn finding_17() {
     for code in ["NF", "en", "E ", " E", "XX"] {
         assert_eq!(headed(&[(80, code)]), [17], "{code}");
     }
-    let tables = Tables { languages: b"", ..TABLES };
+    let tables = Tables {
+        languages: b"",
+        ..TABLES
+    };
     for (code, held) in [("EN", vec![17]), ("  ", none())] {
         let records = file_of(&[header(&[(80, code)]), swr("")]);
         assert_eq!(judge_all(&records, &tables, 6).findings[2], held);
@@ -317,8 +370,15 @@ fn finding_19() {
     }
     // The first would be right without the leading 1.
     for iswc in [
-        "T0000000000", "t0345246801", " 0345246801", "T034524680 ", "T03452468A1", "T-034524680",
-        "1          ", "00000000000", "T3045246801",
+        "T0000000000",
+        "t0345246801",
+        " 0345246801",
+        "T034524680 ",
+        "T03452468A1",
+        "T-034524680",
+        "1          ",
+        "00000000000",
+        "T3045246801",
     ] {
         assert_eq!(headed(&[(96, iswc)]), [19], "{iswc}");
     }
@@ -326,7 +386,9 @@ fn finding_19() {
 
 #[test]
 fn finding_20() {
-    for date in ["00000000", "20240229", "00010101", "99991231", "20000229", "20230430"] {
+    for date in [
+        "00000000", "20240229", "00010101", "99991231", "20000229", "20230430",
+    ] {
         assert_eq!(headed(&[(107, date)]), none(), "{date}");
     }
     for date in [
@@ -346,7 +408,10 @@ fn finding_21() {
         assert_eq!(headed(&[(127, category)]), [21], "{category}");
     }
     // Blank even where the table has a blank entry.
-    let tables = Tables { categories: b"   POP", ..TABLES };
+    let tables = Tables {
+        categories: b"   POP",
+        ..TABLES
+    };
     let records = file_of(&[header(&[(127, "   ")]), swr("")]);
     assert_eq!(judge_all(&records, &tables, 6).findings[2], [21]);
 }
@@ -369,7 +434,10 @@ fn finding_22_and_23() {
         assert_eq!(duration("   ", wrong), [21, 23], "{wrong}");
     }
     // SER is three bytes, in the lent table or not.
-    let tables = Tables { categories: b"POP", ..TABLES };
+    let tables = Tables {
+        categories: b"POP",
+        ..TABLES
+    };
     let records = file_of(&[header(&[(127, "SER")]), swr("")]);
     assert_eq!(judge_all(&records, &tables, 6).findings[2], [9, 21, 22]);
 }
@@ -385,7 +453,10 @@ fn finding_24() {
 #[test]
 fn finding_25() {
     let wrong = |numbers: &[&'static str]| {
-        let publishers: Vec<_> = numbers.iter().map(|&number| ("OPU", number, "AM", 0)).collect();
+        let publishers: Vec<_> = numbers
+            .iter()
+            .map(|&number| ("OPU", number, "AM", 0))
+            .collect();
         let all = chain(&publishers);
         let held = all[1..].iter().map(|findings| findings.contains(&25));
         held.collect::<Vec<_>>()
@@ -442,8 +513,16 @@ fn finding_29_33_and_34() {
         ("U", vec![29], vec![33]),
         ("y", vec![29], vec![33]),
     ] {
-        assert_eq!(of_publisher("SPU", &[(76, indicator)]), of_spu, "{indicator}");
-        assert_eq!(of_publisher("OPU", &[(76, indicator)]), of_opu, "{indicator}");
+        assert_eq!(
+            of_publisher("SPU", &[(76, indicator)]),
+            of_spu,
+            "{indicator}"
+        );
+        assert_eq!(
+            of_publisher("OPU", &[(76, indicator)]),
+            of_opu,
+            "{indicator}"
+        );
     }
 }
 
@@ -489,12 +568,15 @@ fn finding_31() {
 
 #[test]
 fn finding_32() {
-    let last = |publishers: &[(&str, &str, &str, u32)]| {
-        chain(publishers).last().unwrap().contains(&32)
-    };
+    let last =
+        |publishers: &[(&str, &str, &str, u32)]| chain(publishers).last().unwrap().contains(&32);
     assert!(last(&[("SPU", "01", "AQ", 1)]));
     assert!(!last(&[("SPU", "01", "E ", 0), ("SPU", "01", "AQ", 1)]));
-    assert!(!last(&[("SPU", "01", "E ", 0), ("SPU", "01", "SE", 0), ("SPU", "01", "AQ", 1)]));
+    assert!(!last(&[
+        ("SPU", "01", "E ", 0),
+        ("SPU", "01", "SE", 0),
+        ("SPU", "01", "AQ", 1)
+    ]));
     assert!(last(&[("SPU", "01", "E ", 0), ("SPU", "02", "AQ", 1)]));
     // Only an E SPU, and an earlier one.
     assert!(last(&[("OPU", "01", "E ", 0), ("SPU", "01", "AQ", 1)]));
@@ -529,7 +611,13 @@ fn finding_37() {
         for tax in ["         ", "123456789", "000000000"] {
             assert_eq!(of_publisher(name, &[(79, tax)]), none());
         }
-        for tax in ["12345678 ", " 12345678", "12345678A", "ABCDEFGHI", "1        "] {
+        for tax in [
+            "12345678 ",
+            " 12345678",
+            "12345678A",
+            "ABCDEFGHI",
+            "1        ",
+        ] {
             assert_eq!(of_publisher(name, &[(79, tax)]), [37], "{tax}");
         }
     }
@@ -538,7 +626,8 @@ fn finding_37() {
 
 #[test]
 fn finding_38_and_42() {
-    let writers = |name: &str, parts: &[(usize, &str)]| with(&[writer(name, [0; 3], parts)])[1].clone();
+    let writers =
+        |name: &str, parts: &[(usize, &str)]| with(&[writer(name, [0; 3], parts)])[1].clone();
     assert_eq!(writers("SWR", &[]), none());
     assert_eq!(writers("SWR", &[(29, " ")]), [38]);
     assert_eq!(writers("SWR", &[(29, " "), (73, "B")]), none());
@@ -599,7 +688,10 @@ fn finding_44() {
     assert_eq!(rec(&[(20, "20240229"), (88, "000000")]), none());
     assert_eq!(rec(&[(20, "00000000"), (88, "000001")]), none());
     for start in [99, 300, 540] {
-        assert_eq!(rec(&[(20, "00000000"), (88, "000000"), (start, "X")]), none());
+        assert_eq!(
+            rec(&[(20, "00000000"), (88, "000000"), (start, "X")]),
+            none()
+        );
     }
     // Not looked at.
     for start in [28, 87, 94, 98] {

@@ -15,7 +15,10 @@ fn refusal_1() {
     for tolerance in [7, 256, 1 << 32, u64::MAX] {
         assert_eq!(answer(tolerance, &TABLES, &file_a()), refusal(1, 0));
         // Before 2 and what follows.
-        let tables = Tables { languages: b"E", ..TABLES };
+        let tables = Tables {
+            languages: b"E",
+            ..TABLES
+        };
         assert_eq!(answer(tolerance, &tables, b""), refusal(1, 0));
     }
 }
@@ -23,23 +26,64 @@ fn refusal_1() {
 #[test]
 fn refusal_2() {
     let languages = |length: usize| vec![b'A'; length];
-    for (length, right) in [(0, true), (1, false), (2, true), (3, false), (2048, true), (2049, false), (2050, false)] {
+    for (length, right) in [
+        (0, true),
+        (1, false),
+        (2, true),
+        (3, false),
+        (2048, true),
+        (2049, false),
+        (2050, false),
+    ] {
         let languages = languages(length);
-        let tables = Tables { languages: &languages, ..TABLES };
-        let expected = if right { passes(1, 1, 6) } else { refusal(2, 0) };
+        let tables = Tables {
+            languages: &languages,
+            ..TABLES
+        };
+        let expected = if right {
+            passes(1, 1, 6)
+        } else {
+            refusal(2, 0)
+        };
         assert_eq!(answer(6, &tables, &file_a()), expected, "{length}");
     }
-    for (length, right) in [(0, true), (1, false), (2, false), (3, true), (3072, true), (3073, false), (3075, false)] {
+    for (length, right) in [
+        (0, true),
+        (1, false),
+        (2, false),
+        (3, true),
+        (3072, true),
+        (3073, false),
+        (3075, false),
+    ] {
         let societies = languages(length);
-        let tables = Tables { societies: &societies, ..TABLES };
-        let expected = if right { passes(1, 1, 6) } else { refusal(2, 1) };
+        let tables = Tables {
+            societies: &societies,
+            ..TABLES
+        };
+        let expected = if right {
+            passes(1, 1, 6)
+        } else {
+            refusal(2, 1)
+        };
         assert_eq!(answer(6, &tables, &file_a()), expected, "{length}");
-        let tables = Tables { categories: &societies, ..TABLES };
-        let expected = if right { passes(1, 1, 6) } else { refusal(2, 2) };
+        let tables = Tables {
+            categories: &societies,
+            ..TABLES
+        };
+        let expected = if right {
+            passes(1, 1, 6)
+        } else {
+            refusal(2, 2)
+        };
         assert_eq!(answer(6, &tables, &file_a()), expected, "{length}");
     }
     // The first of several, and before all of the file.
-    let tables = Tables { societies: b"1", categories: b"1", ..TABLES };
+    let tables = Tables {
+        societies: b"1",
+        categories: b"1",
+        ..TABLES
+    };
     assert_eq!(answer(6, &tables, b""), refusal(2, 1));
 }
 
@@ -57,9 +101,15 @@ fn refusal_11() {
         let answer = check(6, &file_a(), &TABLES, &mut verdicts, &mut findings);
         if right {
             assert_eq!(answer, passes(1, 1, 6));
-            assert!(verdicts[..6].iter().chain(&findings[..48]).all(|&byte| byte == 0));
+            assert!(verdicts[..6]
+                .iter()
+                .chain(&findings[..48])
+                .all(|&byte| byte == 0));
             // Bytes beyond stay.
-            assert!(verdicts[6..].iter().chain(&findings[48..]).all(|&byte| byte == 9));
+            assert!(verdicts[6..]
+                .iter()
+                .chain(&findings[48..])
+                .all(|&byte| byte == 9));
         } else {
             assert_eq!(answer, refusal(11, 0));
             assert!(verdicts.iter().chain(&findings).all(|&byte| byte == 9));
@@ -68,7 +118,10 @@ fn refusal_11() {
     // 10 stands before it.
     let mut records = records_a();
     records[0] = over(hdr(), &[(102, "2.1")]);
-    assert_eq!(check(6, &join(&records), &TABLES, &mut [], &mut []), refusal(10, 0));
+    assert_eq!(
+        check(6, &join(&records), &TABLES, &mut [], &mut []),
+        refusal(10, 0)
+    );
 }
 
 #[test]
@@ -95,5 +148,8 @@ fn short_form() {
         assert_eq!(answer, passes(1, 1, 6));
         findings[16]
     };
-    assert_eq!((work(9994), work(9993), work(10_006), work(10_007)), (0, 8, 0, 12));
+    assert_eq!(
+        (work(9994), work(9993), work(10_006), work(10_007)),
+        (0, 8, 0, 12)
+    );
 }

@@ -48,7 +48,10 @@ fn findings_in_it() {
         grt("000010000000100000003"),
         over(grh("00002"), &[(4, "NWR")]),
         nwr("0000000000000000"),
-        over(writer("OWR", [10_000; 3], &[(105, "XX")]), &[(4, "0000000000000001")]),
+        over(
+            writer("OWR", [10_000; 3], &[(105, "XX")]),
+            &[(4, "0000000000000001")],
+        ),
         over(writer("SWR", [0; 3], &[]), &[(4, "0000000000000002")]),
         grt("000020000000100000005"),
         trl("000020000000200000010"),
@@ -67,7 +70,10 @@ GROUPS 2 TRANSACTIONS 2 RECORDS 10
 8 GRT 0 0 -
 9 TRL 0 0 -
 ";
-    assert_eq!(String::from_utf8(listing(&join(&records))).unwrap(), expected);
+    assert_eq!(
+        String::from_utf8(listing(&join(&records))).unwrap(),
+        expected
+    );
 }
 
 #[test]

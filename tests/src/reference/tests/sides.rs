@@ -89,7 +89,16 @@ fn side_13_writers_total_3() {
 
 #[test]
 fn bad_length_in_record_9_and_a_second_hdr_at_3() {
-    let mut records = file_of(&[nwr(""), swr(""), swr(""), swr(""), swr(""), swr(""), swr(""), swr("")]);
+    let mut records = file_of(&[
+        nwr(""),
+        swr(""),
+        swr(""),
+        swr(""),
+        swr(""),
+        swr(""),
+        swr(""),
+        swr(""),
+    ]);
     records[3] = hdr();
     records[9].pop();
     let file = join(&records);

@@ -15,7 +15,10 @@ fn own_levels() {
         over(detail("PER"), &[(20, "A")]),
         detail("PER"),
         detail("MSG"),
-        over(detail("REC"), &[(20, "0000000A"), (88, "000000"), (99, "A")]),
+        over(
+            detail("REC"),
+            &[(20, "0000000A"), (88, "000000"), (99, "A")],
+        ),
     ];
     assert_eq!(verdicts(&file_of(&work)), [0, 0, 1, 0, 0, 2, 2, 1, 0, 0]);
 }
@@ -36,19 +39,32 @@ fn a_rejected_group() {
     // Finding 0 is 4 on all of its group, GRH and GRT too, and only there;
     // the other findings are set as usual.
     let good = [nwr(""), swr("")];
-    let bad = [over(nwr(""), &[(1, "REV"), (20, " ")]), detail("TER"), swr("")];
+    let bad = [
+        over(nwr(""), &[(1, "REV"), (20, " ")]),
+        detail("TER"),
+        swr(""),
+    ];
     let mut records = file_of(&good);
-    records.splice(5..5, [&[grh("")][..], &good, &bad, &good, &[grt("")]].concat());
+    records.splice(
+        5..5,
+        [&[grh("")][..], &good, &bad, &good, &[grt("")]].concat(),
+    );
     let judged = judge_all(&records, &TABLES, 6);
     assert_eq!(judged.answer, passes(2, 4, 15));
-    assert_eq!(judged.verdicts, [0, 0, 0, 0, 0, 4, 4, 4, 4, 4, 4, 4, 4, 4, 0]);
+    assert_eq!(
+        judged.verdicts,
+        [0, 0, 0, 0, 0, 4, 4, 4, 4, 4, 4, 4, 4, 4, 0]
+    );
     assert_eq!(judged.findings[8..11], [vec![0, 16], vec![24], vec![]]);
     // A type of group that there is none of: every header.
     let mut records = file_of(&[good.clone(), good].concat());
     records[1] = over(grh(""), &[(4, "XXX")]);
     let judged = judge_all(&records, &TABLES, 6);
     assert_eq!(judged.verdicts, [0, 4, 4, 4, 4, 4, 4, 0]);
-    assert_eq!((&judged.findings[2][..], &judged.findings[4][..]), (&[0][..], &[0][..]));
+    assert_eq!(
+        (&judged.findings[2][..], &judged.findings[4][..]),
+        (&[0][..], &[0][..])
+    );
 }
 
 #[test]

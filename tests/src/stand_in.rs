@@ -1,0 +1,178 @@
+//! The library's C interface with the reading behind it, as an archive that
+//! the driver can be linked with, to try the driver itself. The variable
+//! STAND_IN names a fault about memory, which the driver's guard must show.
+
+use std::slice::{from_raw_parts, from_raw_parts_mut};
+
+use tests::reference::{self, findings, Answer, Tables};
+
+fn fault(name: &str) -> bool {
+    std::env::var_os("STAND_IN").is_some_and(|wanted| wanted == name)
+}
+
+/// Reads a byte for nothing.
+unsafe fn look(at: *const u8) {
+    std::ptr::read_volatile(at);
+}
+
+/// # Safety
+/// Each pointer is that of as many bytes as the length after it says; so for
+/// all of these calls.
+#[no_mangle]
+#[allow(clippy::too_many_arguments)]
+pub unsafe extern "C" fn cwr_check_within(
+    tolerance: u64,
+    file: *const u8,
+    file_len: usize,
+    languages: *const u8,
+    languages_len: usize,
+    societies: *const u8,
+    societies_len: usize,
+    categories: *const u8,
+    categories_len: usize,
+    verdicts: *mut u8,
+    verdicts_len: usize,
+    findings: *mut u8,
+    findings_len: usize,
+) -> u64 {
+    let tables = Tables {
+        languages: from_raw_parts(languages, languages_len),
+        societies: from_raw_parts(societies, societies_len),
+        categories: from_raw_parts(categories, categories_len),
+    };
+    let answer = reference::check(
+        tolerance,
+        from_raw_parts(file, file_len),
+        &tables,
+        from_raw_parts_mut(verdicts, verdicts_len),
+        from_raw_parts_mut(findings, findings_len),
+    );
+    if fault("reads-after-file") {
+        look(file.add(file_len));
+    }
+    if fault("reads-before-file") {
+        look(file.sub(1));
+    }
+    if fault("reads-after-table") {
+        look(categories.add(categories_len));
+    }
+    if fault("writes-after-findings") {
+        findings.add(findings_len).write_volatile(0);
+    }
+    if fault("writes-before-verdicts") {
+        verdicts.sub(1).write_volatile(0);
+    }
+    if fault("changes-file") && file_len > 0 {
+        file.add(file_len - 1).cast_mut().write_volatile(0);
+    }
+    if fault("changes-table") && societies_len > 0 {
+        societies.cast_mut().write_volatile(0);
+    }
+    answer.packed()
+}
+
+/// # Safety
+/// As above.
+#[no_mangle]
+#[allow(clippy::too_many_arguments)]
+pub unsafe extern "C" fn cwr_check(
+    file: *const u8,
+    file_len: usize,
+    languages: *const u8,
+    languages_len: usize,
+    societies: *const u8,
+    societies_len: usize,
+    categories: *const u8,
+    categories_len: usize,
+    verdicts: *mut u8,
+    verdicts_len: usize,
+    findings: *mut u8,
+    findings_len: usize,
+) -> u64 {
+    cwr_check_within(
+        6,
+        file,
+        file_len,
+        languages,
+        languages_len,
+        societies,
+        societies_len,
+        categories,
+        categories_len,
+        verdicts,
+        verdicts_len,
+        findings,
+        findings_len,
+    )
+}
+
+/// # Safety
+/// As above.
+#[no_mangle]
+pub unsafe extern "C" fn cwr_number(
+    file: *const u8,
+    file_len: usize,
+    out: *mut u8,
+    out_len: usize,
+) -> u64 {
+    if fault("writes-after-out") {
+        out.add(out_len).write_volatile(0);
+    }
+    let (file, out) = (
+        from_raw_parts(file, file_len),
+        from_raw_parts_mut(out, out_len),
+    );
+    reference::numbering(file, out).packed()
+}
+
+#[no_mangle]
+pub extern "C" fn cwr_findings_count(set: u64) -> u32 {
+    findings::count(set)
+}
+
+#[no_mangle]
+pub extern "C" fn cwr_findings_lowest(set: u64) -> u32 {
+    findings::lowest(set)
+}
+
+/// # Safety
+/// As above.
+#[no_mangle]
+pub unsafe extern "C" fn probe_structure(file: *const u8, len: usize) -> u64 {
+    if fault("probe-reads-after-file") {
+        look(file.add(len));
+    }
+    reference::structure(from_raw_parts(file, len)).packed()
+}
+
+/// # Safety
+/// As above.
+#[no_mangle]
+pub unsafe extern "C" fn probe_groups(file: *const u8, len: usize) -> u64 {
+    match reference::structure(from_raw_parts(file, len)) {
+        Answer::Passed { groups, .. } => groups,
+        Answer::Refused { .. } => 0,
+    }
+}
+
+/// # Safety
+/// As above.
+#[no_mangle]
+pub unsafe extern "C" fn probe_transactions(file: *const u8, len: usize) -> u64 {
+    match reference::structure(from_raw_parts(file, len)) {
+        Answer::Passed { transactions, .. } => transactions,
+        Answer::Refused { .. } => 0,
+    }
+}
+
+/// # Safety
+/// As above.
+#[no_mangle]
+pub unsafe extern "C" fn probe_number(
+    file: *const u8,
+    len: usize,
+    out: *mut u8,
+    out_len: usize,
+) -> u64 {
+    reference::numbering(from_raw_parts(file, len), from_raw_parts_mut(out, out_len)).packed()
+}
