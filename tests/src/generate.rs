@@ -172,6 +172,16 @@ pub fn seeds(run: u64, files: u64) -> Vec<u64> {
         .collect()
 }
 
+/// The seeds of a run of so few files that it cannot have all those that are
+/// made once: half of them such ones, from all over, but no large ones.
+pub fn spread(run: u64, files: u64) -> Vec<u64> {
+    let each = files / 2;
+    let place = |number: u64| each::FIRST + number * each::number() / each.max(1);
+    let mut seeds: Vec<u64> = (0..each).map(place).collect();
+    seeds.extend(self::seeds(run, (files - each).min(FILES_WITH_ONCE - 1)));
+    seeds
+}
+
 /// The seeds of the files at the limits.
 pub fn limits() -> Vec<u64> {
     (0..boundary::number()).collect()

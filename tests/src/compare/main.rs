@@ -13,7 +13,7 @@ use options::Options;
 use tally::{Tally, TOO_LONG};
 use tests::calls::{expected, Call, Guard, Program};
 use tests::driver::{list, Driver};
-use tests::generate::{case, limits, seeds, Case};
+use tests::generate::{case, limits, seeds, spread, Case};
 use tests::reference;
 
 /// Why a run, or a part of it, ended early.
@@ -28,10 +28,11 @@ fn main() -> ExitCode {
     let seeds: Vec<u64> = match options.one {
         Some(seed) => vec![seed],
         None if options.limits => limits(),
+        None if options.guard => spread(options.run, options.files()),
         None => seeds(options.run, options.files()),
     };
     let (next, tally) = (AtomicUsize::new(0), Mutex::new(Tally::new()));
-    // The stops with the places of their files among the seeds.
+    // The stops, with how far the run had come.
     let stops: Mutex<Vec<(usize, Stop)>> = Mutex::default();
     std::thread::scope(|scope| {
         for _ in 0..options.workers.min(seeds.len()) {

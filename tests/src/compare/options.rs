@@ -10,7 +10,7 @@ compare [--files N] [--seed S] [--one SEED] [--limits] [--only CALL] [--guard]
         [--wait SECONDS] [--workers N]
         -- DRIVER ARG... [-- PROBE ARG... [-- LISTING ARG...]]
 
-  --files N       compare N files (20000, with --guard 400); from 10000 on,
+  --files N       compare N files (20000, with --guard 1000); from 10000 on,
                   the files at the limits and those for every possibility are
                   among them, and from 20000 on, each answer must have come up
                   often enough
@@ -32,7 +32,7 @@ came up too seldom, 2 where nothing could be compared.";
 
 /// A default run; the least numbers are asked of it and of longer ones.
 pub const FILES: u64 = 20_000;
-const FILES_GUARDED: u64 = 400;
+const FILES_GUARDED: u64 = 1000;
 
 pub struct Options {
     files: Option<u64>,

@@ -141,7 +141,7 @@ fn least_answer(call: Call, answer: u64) -> u64 {
         (_, 3 | 5) => 0,
         (Call::Counted, 0 | 4 | 6 | 7 | 10 | 11) => 50,
         (_, 0 | 4 | 6 | 7) => 300,
-        (Call::Check | Call::Within | Call::Structure, 8 | 9 | 10) => 200,
+        (Call::Check | Call::Within | Call::Structure, 8..=10) => 200,
         (Call::Check | Call::Within, 11) => 200,
         (Call::Number, 10 | 11) => 200,
         _ => 0,

@@ -26,7 +26,7 @@ pub fn change(work: &mut Records, lent: &Lent, random: &mut Random) {
 pub fn mix(work: &mut Records, lent: &Lent, random: &mut Random) {
     let times = random.between(2, 6);
     for record in work.iter_mut() {
-        for &(start, size, pool) in fields(&record[..3].to_vec()) {
+        for &(start, size, pool) in fields(&record[..3]) {
             if random.one_in(times) {
                 put_bytes(record, start, &wild(pool, size, lent.tables, random));
             }

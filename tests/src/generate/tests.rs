@@ -324,3 +324,14 @@ fn a_run_is_wide() {
         "{wrong_bytes:?}"
     );
 }
+
+#[test]
+fn a_spread_run_is_of_small_files() {
+    for files in [1, 2, 50, 400, 30_000] {
+        let seeds = spread(0, files);
+        assert!(seeds.len() as u64 <= files && !seeds.is_empty());
+        let small = |&seed: &u64| case(seed).is_some_and(|case| case.file.len() < 1_000_000);
+        assert!(seeds.iter().step_by(7).all(small));
+    }
+    assert!(each::number() + boundary::number() < FILES_WITH_ONCE);
+}

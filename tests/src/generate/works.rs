@@ -22,7 +22,11 @@ pub fn records(lent: &Lent, random: &mut Random) -> Records {
     };
     let mixed = random.one_in(12);
     let mut records = vec![plain(named("HDR"))];
-    put(&mut records[0], 102, "2.2002");
+    put(
+        &mut records[0],
+        102,
+        random.of(&["2.2000", "2.2001", "2.2002"]),
+    );
     for _ in 0..random.between(1, groups) {
         let kind = random.of(&["NWR", "REV"]);
         let mut grh = plain(named("GRH"));

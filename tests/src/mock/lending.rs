@@ -4,13 +4,13 @@
 use std::process::exit;
 
 use tests::calls::{Call, Guard, Reply};
+use tests::reference::lines::lines;
+use tests::reference::types::Class;
 use tests::reference::values::in_table;
 use tests::reference::verdicts::own;
 
 use crate::asked::{classes, with_place, Asked};
 use crate::Fault;
-use tests::reference::lines::lines;
-use tests::reference::types::Class;
 
 /// The number of records, where a check has passed.
 fn judged_records(asked: &Asked, reply: &Reply) -> Option<usize> {
@@ -28,8 +28,7 @@ fn looked_up(asked: &Asked, found: fn(&[u8], &[u8]) -> bool) -> Reply {
                 sets[set] |= 1 << finding;
             }
         };
-        for record in 0..work.len() {
-            let text = work[record];
+        for (record, text) in work.iter().enumerate() {
             match &text[..3] {
                 b"NWR" | b"REV" => {
                     judge(record, 17, &text[79..81], tables.languages, false);
@@ -309,9 +308,9 @@ pub const FAULTS: &[Fault] = &[
         let mut right = asked.right();
         if let Some(records) = judged_records(asked, &right) {
             let classes = classes(&lines(&asked.file));
-            for record in 0..records {
-                if matches!(classes[record], Class::Grh | Class::Grt) {
-                    right.buffers[0][record] = 0;
+            for (verdict, class) in right.buffers[0][..records].iter_mut().zip(classes) {
+                if matches!(class, Class::Grh | Class::Grt) {
+                    *verdict = 0;
                 }
             }
         }

@@ -71,5 +71,5 @@ pub fn valid_iswc(field: &[u8]) -> bool {
     }
     let digit = |place: usize| u64::from(field[place] - 48);
     let weighted: u64 = (1..=9).map(|place| place as u64 * digit(place)).sum();
-    (1 + weighted + digit(10)) % 10 == 0
+    (1 + weighted + digit(10)).is_multiple_of(10)
 }
