@@ -48,7 +48,11 @@ pub fn of_replies(
                 .iter()
                 .zip(&request.tables)
             {
-                add(name, &format!("{} bytes", table.len()));
+                let mut words = format!("{} bytes", table.len());
+                if table.len() <= 60 {
+                    let _ = write!(words, ": \"{}\"", table.escape_ascii());
+                }
+                add(name, &words);
             }
         }
         _ => {}

@@ -173,8 +173,8 @@ fn each_damage_reaches_its_refusal() {
     }
 }
 
-/// "Numbering a file that passes gives the same bytes; a numbered file is
-/// structurally right", and bytes beyond stay.
+/// Numbering changes nothing in a file that passes, makes one of any other that
+/// it takes, and leaves the bytes beyond.
 #[test]
 fn promises_of_numbering() {
     let mut numbered = 0;

@@ -30,7 +30,7 @@ pub fn check(
     answer(Ok(counts(&classes)))
 }
 
-/// "A short form of the call takes no tolerance and uses 6."
+/// The check with the largest tolerance.
 pub fn check_short(
     file: &[u8],
     tables: &Tables,
@@ -40,7 +40,7 @@ pub fn check_short(
     check(LARGEST_TOLERANCE, file, tables, out_verdicts, out_findings)
 }
 
-/// "Checks run in this order, each over the whole file before the next."
+/// What is lent and needs no file comes first, room for the answer last.
 fn passes<'a>(
     tolerance: u64,
     file: &'a [u8],

@@ -13,7 +13,7 @@ pub struct Tables<'a> {
     pub categories: &'a [u8],
 }
 
-/// "Tolerance above 6."
+/// The tolerance.
 pub fn refusal_1(tolerance: u64) -> Result<(), Refusal> {
     if tolerance > LARGEST_TOLERANCE {
         return Err(refused(1, 0));
@@ -21,8 +21,7 @@ pub fn refusal_1(tolerance: u64) -> Result<(), Refusal> {
     Ok(())
 }
 
-/// "A table's length is no multiple of its entry size, or it has over 1,024
-/// entries": the first such table.
+/// Whole entries, and not too many: the place is the first table that fails.
 pub fn refusal_2(tables: &Tables) -> Result<(), Refusal> {
     let sized = [
         (tables.languages, 2),
@@ -37,7 +36,7 @@ pub fn refusal_2(tables: &Tables) -> Result<(), Refusal> {
     Ok(())
 }
 
-/// "An output buffer too short": one byte a record, and eight.
+/// Room for a byte a record, and for eight.
 pub fn refusal_11(records: usize, verdicts: &[u8], findings: &[u8]) -> Result<(), Refusal> {
     if verdicts.len() < records || findings.len() < 8 * records {
         return Err(refused(11, 0));

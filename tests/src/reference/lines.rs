@@ -8,7 +8,7 @@ pub const MOST_RECORDS: usize = 131_072;
 const CR: u8 = 13;
 const LF: u8 = 10;
 
-/// "File over 16,777,216 bytes."
+/// The file's size, before anything in it is looked at.
 pub fn refusal_3(file: &[u8]) -> Result<(), Refusal> {
     if file.len() > LARGEST_FILE {
         return Err(refused(3, 0));
@@ -16,8 +16,8 @@ pub fn refusal_3(file: &[u8]) -> Result<(), Refusal> {
     Ok(())
 }
 
-/// "A byte below 32 that isn't part of a CR LF pair, or text after the last
-/// CR LF": the place is the number of pairs before the fault.
+/// Control bytes only as pairs of CR and LF, and a pair at the end of every
+/// line. The place is the number of pairs before the fault.
 pub fn refusal_4(file: &[u8]) -> Result<(), Refusal> {
     let mut pairs = 0;
     let mut at = 0;
@@ -39,7 +39,7 @@ pub fn refusal_4(file: &[u8]) -> Result<(), Refusal> {
     Ok(())
 }
 
-/// "Over 131,072 records"; an empty line is a record too. After 4, so that
+/// The number of records; an empty line is one too. After 4, so that
 /// each pair ends a record and nothing stands after the last.
 pub fn refusal_5(file: &[u8]) -> Result<(), Refusal> {
     let pairs = (0..file.len()).filter(|&at| is_pair(file, at)).count();
@@ -56,7 +56,7 @@ pub struct Line<'a> {
     pub text: &'a [u8],
 }
 
-/// "A record is the text before a CR LF." After 4.
+/// The lines without their pairs. After 4.
 pub fn lines(file: &[u8]) -> Vec<Line<'_>> {
     let mut lines = Vec::new();
     let mut start = 0;

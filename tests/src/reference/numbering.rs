@@ -33,7 +33,7 @@ fn check<'a>(file: &'a [u8], out: &[u8]) -> Result<(Vec<Line<'a>>, Vec<Class>), 
     let classes = refusal_6(&lines)?;
     refusal_7(&classes)?;
     refusal_10(&lines)?;
-    // "Buffer shorter than the file."
+    // Room for as many bytes as the file has.
     if out.len() < file.len() {
         return Err(refused(11, 0));
     }

@@ -15,12 +15,12 @@ pub struct Number {
 impl Number {
     fn new(start: usize, size: usize, value: u64) -> Number {
         let digits = format!("{value:0size$}");
-        // "No number outgrows its digits."
+        // There are too few records for a number with more digits.
         assert_eq!(digits.len(), size);
         Number { start, digits }
     }
 
-    /// Wrong "if any of its bytes differs from the right digits".
+    /// Each byte must be the right digit; a space for a leading zero is not.
     pub fn stands_in(&self, record: &[u8]) -> bool {
         field(record, self.start, self.digits.len()) == self.digits.as_bytes()
     }
@@ -39,15 +39,15 @@ pub fn right_numbers(classes: &[Class]) -> Vec<Vec<Number>> {
         all.push(match class {
             Class::Hdr => vec![],
             Class::Grh => {
-                // "1 upward"
+                // Groups count from 1.
                 groups += 1;
                 group_transactions = 0;
                 group_records = 1;
                 vec![Number::new(7, 5, groups)]
             }
             Class::Header => {
-                // "Transactions count from 0 in each group. A header's record
-                // number is 0."
+                // Each group begins anew, with transaction 0; the header is
+                // record 0 of its transaction.
                 let transaction = group_transactions;
                 group_transactions += 1;
                 transactions += 1;
@@ -55,7 +55,7 @@ pub fn right_numbers(classes: &[Class]) -> Vec<Vec<Number>> {
                 vec![Number::new(4, 8, transaction), Number::new(12, 8, 0)]
             }
             Class::Detail => {
-                // "Details count from 1."
+                // After the header, which was 0.
                 details += 1;
                 vec![
                     Number::new(4, 8, group_transactions - 1),
@@ -65,13 +65,13 @@ pub fn right_numbers(classes: &[Class]) -> Vec<Vec<Number>> {
             Class::Grt => vec![
                 Number::new(4, 5, groups),
                 Number::new(9, 8, group_transactions),
-                // "Records including GRH and GRT."
+                // Both ends of the group count.
                 Number::new(17, 8, group_records),
             ],
             Class::Trl => vec![
                 Number::new(4, 5, groups),
                 Number::new(9, 8, transactions),
-                // "Records including HDR and TRL."
+                // All there are.
                 Number::new(17, 8, classes.len() as u64),
             ],
         });

@@ -16,7 +16,7 @@ pub struct Structure<'a> {
     pub classes: Vec<Class>,
 }
 
-/// "Checks run in this order, each over the whole file before the next."
+/// Each goes over all of the file before the next has its turn.
 pub fn refusals_3_to_10(file: &[u8]) -> Result<Structure<'_>, Refusal> {
     refusal_3(file)?;
     refusal_4(file)?;
@@ -31,7 +31,8 @@ pub fn refusals_3_to_10(file: &[u8]) -> Result<Structure<'_>, Refusal> {
     Ok(Structure { lines, classes })
 }
 
-/// "Unknown type, or wrong length." Gives the records' classes.
+/// Each record has a type of the table, and that type's length. Gives their
+/// classes.
 pub fn refusal_6(lines: &[Line]) -> Result<Vec<Class>, Refusal> {
     let mut classes = Vec::with_capacity(lines.len());
     for (place, line) in lines.iter().enumerate() {
@@ -43,7 +44,8 @@ pub fn refusal_6(lines: &[Line]) -> Result<Vec<Class>, Refusal> {
     Ok(classes)
 }
 
-/// "Record out of place", and "a file that stops without TRL".
+/// Each record may stand after the one before it, and the last is the TRL;
+/// where that is missing, the place is the one after the last record.
 pub fn refusal_7(classes: &[Class]) -> Result<(), Refusal> {
     let mut before = None;
     for (place, &class) in classes.iter().enumerate() {
@@ -60,7 +62,7 @@ pub fn refusal_7(classes: &[Class]) -> Result<(), Refusal> {
 
 fn may_follow(before: Option<Class>, class: Class) -> bool {
     match before {
-        // "HDR first", and by the other lines never again.
+        // Only the HDR begins a file, and nothing below leads to another.
         None => class == Class::Hdr,
         Some(Class::Hdr) => class == Class::Grh,
         Some(Class::Grh) => class == Class::Header,
@@ -68,19 +70,19 @@ fn may_follow(before: Option<Class>, class: Class) -> bool {
             matches!(class, Class::Header | Class::Detail | Class::Grt)
         }
         Some(Class::Grt) => matches!(class, Class::Grh | Class::Trl),
-        // "TRL last": what comes later is out of place, not the TRL.
+        // What comes later is out of place, not the TRL.
         Some(Class::Trl) => false,
     }
 }
 
-/// "Prefix or GRH number wrong."
+/// The numbers of headers, details and GRHs.
 fn refusal_8(lines: &[Line], classes: &[Class], right: &[Vec<Number>]) -> Result<(), Refusal> {
     first_wrong(lines, classes, right, 8, |class| {
         matches!(class, Class::Grh | Class::Header | Class::Detail)
     })
 }
 
-/// "A GRT (group number too) or TRL number wrong."
+/// The numbers of GRTs, the group's among them, and of the TRL.
 fn refusal_9(lines: &[Line], classes: &[Class], right: &[Vec<Number>]) -> Result<(), Refusal> {
     first_wrong(lines, classes, right, 9, |class| {
         matches!(class, Class::Grt | Class::Trl)
@@ -103,8 +105,8 @@ fn first_wrong(
     Ok(())
 }
 
-/// "HDR version (start 102, size 3) not "2.2", or revision (105, 3) not three
-/// digits of value 0 to 2." After 7, so that the first record is the HDR.
+/// The HDR names edition 2.2 and one of its three revisions. After 7, so that
+/// the first record is the HDR.
 pub fn refusal_10(lines: &[Line]) -> Result<(), Refusal> {
     let version = field(lines[0].text, 102, 3);
     let revision = field(lines[0].text, 105, 3);

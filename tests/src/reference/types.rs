@@ -22,7 +22,7 @@ pub struct Type {
 }
 
 impl Type {
-    /// "Its last field's start plus size minus 1."
+    /// The position of its last field's last byte.
     pub const fn length(&self) -> usize {
         self.last_start + self.last_size - 1
     }

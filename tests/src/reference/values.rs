@@ -5,7 +5,7 @@ pub fn blank(field: &[u8]) -> bool {
     field.iter().all(|&byte| byte == b' ')
 }
 
-/// "Entered" means not all spaces.
+/// Something stands in the field.
 pub fn entered(field: &[u8]) -> bool {
     !blank(field)
 }
@@ -31,7 +31,7 @@ pub fn in_table(code: &[u8], table: &[u8]) -> bool {
     table.chunks_exact(code.len()).any(|entry| entry == code)
 }
 
-/// A month 1 to 12 and a day of that month, Gregorian, year 1 or later.
+/// A day of the Gregorian calendar, carried back to the year 1.
 pub fn valid_date(field: &[u8]) -> bool {
     let (Some(year), Some(month), Some(day)) = (
         digits(&field[..4]),
@@ -51,7 +51,7 @@ pub fn valid_date(field: &[u8]) -> bool {
     year >= 1 && (1..=days).contains(&day)
 }
 
-/// Six digits, minutes and seconds at most 59.
+/// Hours are not limited; minutes and seconds are.
 pub fn valid_duration(field: &[u8]) -> bool {
     let (Some(_hours), Some(minutes), Some(seconds)) = (
         digits(&field[..2]),
@@ -63,8 +63,8 @@ pub fn valid_duration(field: &[u8]) -> bool {
     minutes <= 59 && seconds <= 59
 }
 
-/// T and ten digits; 1 plus the first nine weighted 1 to 9 plus the last is a
-/// multiple of 10.
+/// The T counts as 1, each of nine digits as often as its place says, and the
+/// last digit fills the sum up to tens.
 pub fn valid_iswc(field: &[u8]) -> bool {
     if field[0] != b'T' || digits(&field[1..]).is_none() {
         return false;

@@ -32,7 +32,7 @@ pub fn own(set: u64) -> u8 {
 /// The verdicts of all records.
 pub fn verdicts(classes: &[Class], sets: &[u64]) -> Vec<u8> {
     let mut verdicts: Vec<u8> = sets.iter().map(|&set| own(set)).collect();
-    // "3 if any record of its transaction has a TR finding."
+    // A TR finding rejects all of its transaction.
     let mut at = 0;
     while at < classes.len() {
         let begin = at;
@@ -50,7 +50,7 @@ pub fn verdicts(classes: &[Class], sets: &[u64]) -> Vec<u8> {
             }
         }
     }
-    // "4 if any header in its group has finding 0", on GRH and GRT too.
+    // Finding 0 rejects all of its group, from the GRH to the GRT.
     let mut begin = 0;
     for at in 0..classes.len() {
         match classes[at] {

@@ -3,9 +3,8 @@
 use super::publishers::Publisher;
 use super::Transaction;
 
-/// "All publisher records of a transaction with the same two-digit sequence
-/// number"; those without two digits are in none. Here only chains with a
-/// record.
+/// The publishers by their sequence number, wherever they stand; without two
+/// digits they are in no chain. Only chains with a record.
 fn chains<'a>(transaction: &'a Transaction) -> Vec<Vec<&'a Publisher<'a>>> {
     let mut chains = vec![Vec::new(); 100];
     for publisher in &transaction.publishers {
@@ -22,7 +21,7 @@ fn begun_by_spu(chain: &[&Publisher]) -> bool {
     chain[0].is_spu()
 }
 
-/// T17: a chain with more than one E.
+/// T17: two or more original publishers in one chain.
 pub fn finding_11(transaction: &Transaction) -> bool {
     let several = |chain: &Vec<&Publisher>| {
         let e = chain.iter().filter(|publisher| publisher.kind() == b"E ");
@@ -31,8 +30,7 @@ pub fn finding_11(transaction: &Transaction) -> bool {
     chains(transaction).iter().any(several)
 }
 
-/// T25: a chain begun by SPU whose SPU records of type E and AQ total 0 in all
-/// rights.
+/// T25: in a chain of the submitter's, none of the SPUs that may own does own.
 pub fn finding_12(transaction: &Transaction) -> bool {
     let nothing = |chain: &Vec<&Publisher>| {
         let counts = |publisher: &&&Publisher| publisher.is_spu() && publisher.may_own();
@@ -42,7 +40,7 @@ pub fn finding_12(transaction: &Transaction) -> bool {
     chains(transaction).iter().any(nothing)
 }
 
-/// T16: OPU in a chain begun by SPU.
+/// T16: somebody else's publisher in a chain of the submitter's.
 pub fn finding_13(transaction: &Transaction) -> bool {
     let mixed = |chain: &Vec<&Publisher>| {
         begun_by_spu(chain) && chain.iter().any(|publisher| !publisher.is_spu())
@@ -50,7 +48,7 @@ pub fn finding_13(transaction: &Transaction) -> bool {
     chains(transaction).iter().any(mixed)
 }
 
-/// T26: an AQ SPU in a chain where an earlier E has a share above 0.
+/// T26: an SPU that acquires what an E before it in the chain still owns.
 pub fn finding_14(transaction: &Transaction) -> bool {
     let owned_before = |chain: &Vec<&Publisher>| {
         let mut owned = false;

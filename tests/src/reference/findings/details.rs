@@ -13,12 +13,12 @@ pub fn set(text: &[u8]) -> u64 {
         | bit(46, finding_46(text))
 }
 
-/// T8, RR: TER, IPA, NPA, MSG.
+/// T8, RR: types that belong to other transactions.
 fn finding_24(text: &[u8]) -> bool {
     SKIPPED.contains(&&text[..3])
 }
 
-/// RR: title of EWT or VER, or last name of PER, blank.
+/// RR: another work without a title, or an artist without a name.
 fn finding_43(text: &[u8]) -> bool {
     match &text[..3] {
         b"EWT" | b"VER" => blank(field(text, 20, 60)),
@@ -31,8 +31,8 @@ fn is_rec(text: &[u8]) -> bool {
     text.starts_with(b"REC")
 }
 
-/// RR: after the defaults of 45 and 46 date and duration are zeros and 99 to
-/// 540 is blank.
+/// RR: a recording of which nothing is said, once the defaults of 45 and 46
+/// are in force.
 fn finding_44(text: &[u8]) -> bool {
     is_rec(text)
         && (finding_45(text) || all_zeros(field(text, 20, 8)))
@@ -40,7 +40,7 @@ fn finding_44(text: &[u8]) -> bool {
         && blank(field(text, 99, 442))
 }
 
-/// FR zeros: release date not zeros and invalid.
+/// FR to zeros: a release date that is none; zeros say there is none.
 fn finding_45(text: &[u8]) -> bool {
     if !is_rec(text) {
         return false;
@@ -49,7 +49,7 @@ fn finding_45(text: &[u8]) -> bool {
     !all_zeros(date) && !valid_date(date)
 }
 
-/// FR zeros: duration invalid.
+/// FR to zeros: a duration that is none; it may be zero.
 fn finding_46(text: &[u8]) -> bool {
     is_rec(text) && !valid_duration(field(text, 88, 6))
 }

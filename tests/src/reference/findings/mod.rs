@@ -90,7 +90,7 @@ pub fn sets(lines: &[Line], classes: &[Class], tables: Tables, tolerance: u64) -
             if classes[at] == Class::Grh {
                 group_type = field(lines[at].text, 4, 3);
             }
-            // "HDR and TRL", GRH and GRT have no findings of their own.
+            // The control records have no findings of their own.
             sets.push(0);
             at += 1;
             continue;

@@ -31,10 +31,10 @@ const STAGES: [Stage; 15] = [
     stage(b"XRF", &[]),
 ];
 
-/// "NPR and IND may begin their stage without a leader."
+/// These need no leader before them.
 const BEGINNERS: [&[u8]; 2] = [b"NPR", b"IND"];
 
-/// "Types with finding 24 are skipped."
+/// Those of finding 24 are as if not there.
 pub const SKIPPED: [&[u8]; 4] = [b"TER", b"IPA", b"NPA", b"MSG"];
 
 /// How far the order has come: a stage, and within it 0 for the leader, 1 for
@@ -54,7 +54,7 @@ fn part(stage: usize, name: &[u8]) -> Option<usize> {
 /// lacks its leader.
 fn step(from: Option<Place>, name: &[u8]) -> Option<Place> {
     if let Some(stage) = STAGES.iter().position(|stage| stage.leader == name) {
-        // "The next leader of a stage starts afresh."
+        // Behind it the bracketed types begin anew.
         let forward = from.is_none_or(|(before, _)| stage >= before);
         return forward.then_some((stage, 0));
     }

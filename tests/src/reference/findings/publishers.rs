@@ -6,7 +6,7 @@ use crate::reference::field;
 use crate::reference::lent::Tables;
 use crate::reference::values::{blank, digits, entered, in_table};
 
-/// The publisher types; one letter is followed by a space.
+/// What a publisher can be.
 pub const KINDS: [&[u8; 2]; 6] = [b"E ", b"AQ", b"AM", b"PA", b"SE", b"ES"];
 
 pub fn known_kind(kind: &[u8]) -> bool {
@@ -16,7 +16,7 @@ pub fn known_kind(kind: &[u8]) -> bool {
 /// A publisher record with what its findings ask of the records before it.
 pub struct Publisher<'a> {
     pub text: &'a [u8],
-    /// PR, MR and SR; a field that isn't five digits counts 0.
+    /// PR, MR and SR, 0 for what is no share.
     pub shares: [u64; 3],
     before: Before,
     /// Whether an E SPU stands before it in its chain.
@@ -121,8 +121,8 @@ impl<'a> Publisher<'a> {
             | bit(37, self.finding_37())
     }
 
-    /// P1: first publisher record 01, each next two digits, equal to the one
-    /// before or one more. After 99 no number is one more.
+    /// P1: the sequence numbers begin at 01 and go on by none or one; behind a
+    /// record without a number nothing goes on, and 99 is the last.
     fn finding_25(&self) -> bool {
         let Some(number) = self.sequence() else {
             return true;
@@ -134,59 +134,60 @@ impl<'a> Publisher<'a> {
         }
     }
 
-    /// P2: SPU party number blank.
+    /// P2: the submitter's publisher without a number.
     fn finding_26(&self) -> bool {
         self.is_spu() && blank(field(self.text, 22, 9))
     }
 
-    /// P4: name blank where SPU, or OPU whose indicator isn't Y.
+    /// P4: no name, though it is not said to be unknown; of an SPU it cannot
+    /// be.
     fn finding_27(&self) -> bool {
         blank(self.name()) && (self.is_spu() || self.indicator() != b'Y')
     }
 
-    /// P5, P6: SPU type not in table.
+    /// P5, P6: the submitter's publisher is nothing that a publisher can be.
     fn finding_28(&self) -> bool {
         self.is_spu() && !known_kind(self.written_kind())
     }
 
-    /// P7: SPU indicator not blank.
+    /// P7: the submitter's publisher is said to be unknown, or not.
     fn finding_29(&self) -> bool {
         self.is_spu() && self.indicator() != b' '
     }
 
-    /// Share not five digits, or over 5000 for PR, 10000 for MR, SR.
+    /// No share, or more than a publisher can have of the right.
     fn finding_30(&self) -> bool {
         let wrong = |share: Option<u64>, most: u64| share.is_none_or(|share| share > most);
         let [pr, mr, sr] = shares(self.text, [116, 124, 132]);
         wrong(pr, HALF) || wrong(mr, FULL) || wrong(sr, FULL)
     }
 
-    /// P19: a share above 0 and type neither E nor AQ.
+    /// P19: owns, but may not.
     fn finding_31(&self) -> bool {
         self.shares != [0; 3] && !self.may_own()
     }
 
-    /// P32: AQ SPU with no earlier E SPU in its chain, or in no chain.
+    /// P32: an acquirer among the SPUs with nobody before it to acquire from.
     fn finding_32(&self) -> bool {
         self.is_spu() && self.kind() == b"AQ" && !self.e_spu_before
     }
 
-    /// P8, FR N: OPU indicator not blank, Y or N.
+    /// P8, FR to N: another publisher's indicator says neither.
     fn finding_33(&self) -> bool {
         self.is_opu() && !b" YN".contains(&self.indicator())
     }
 
-    /// P9, FR N: OPU indicator Y with a name.
+    /// P9, FR to N: said to be unknown, but named.
     fn finding_34(&self) -> bool {
         self.is_opu() && self.indicator() == b'Y' && entered(self.name())
     }
 
-    /// P28, FR E: OPU type not in table.
+    /// P28, FR to E: another publisher is nothing that a publisher can be.
     fn finding_35(&self) -> bool {
         self.is_opu() && !known_kind(self.written_kind())
     }
 
-    /// FR spaces: a society code entered and not in table.
+    /// FR to spaces: a society that the table hasn't, for any right.
     fn finding_36(&self, tables: &Tables) -> bool {
         [113, 121, 129].into_iter().any(|start| {
             let society = field(self.text, start, 3);
@@ -194,7 +195,7 @@ impl<'a> Publisher<'a> {
         })
     }
 
-    /// P23, FR zeros: tax number entered, not digits.
+    /// P23, FR to zeros: a tax number with something else than digits.
     fn finding_37(&self) -> bool {
         let tax = field(self.text, 79, 9);
         entered(tax) && digits(tax).is_none()

@@ -40,20 +40,20 @@ fn of_writers(transaction: &Transaction) -> [u64; 3] {
     total(transaction.writers.iter().map(|writer| writer.shares))
 }
 
-/// T22, GR: header type differs from the GRH transaction type.
+/// T22, GR: the group is not for headers of this type.
 fn finding_0(transaction: &Transaction) -> bool {
     transaction.header[..3] != *transaction.group_type
 }
 
-/// T4: SPU and OPU total: PR over 5000+t, MR or SR over 10000+t.
+/// T4: publishers own more than half of PR, or more than all of another right.
 fn finding_1(transaction: &Transaction) -> bool {
     let [pr, mr, sr] = of_publishers(transaction);
     let t = transaction.tolerance;
     pr > HALF + t || mr > FULL + t || sr > FULL + t
 }
 
-/// T9: SWR and OWR total: PR neither exactly 0 nor at least 5000-t, or any
-/// right over 10000+t.
+/// T9: writers own less than half of PR, but not nothing, or more than all of
+/// some right.
 fn finding_2(transaction: &Transaction) -> bool {
     let [pr, mr, sr] = of_writers(transaction);
     let t = transaction.tolerance;
@@ -61,7 +61,7 @@ fn finding_2(transaction: &Transaction) -> bool {
     !enough || [pr, mr, sr].iter().any(|&right| right > FULL + t)
 }
 
-/// T11: all four: some right neither exactly 0 nor 10000-t to 10000+t.
+/// T11: together they own neither nothing nor all of some right.
 fn finding_3(transaction: &Transaction) -> bool {
     let t = transaction.tolerance;
     let all = total([of_publishers(transaction), of_writers(transaction)].into_iter());
@@ -69,7 +69,7 @@ fn finding_3(transaction: &Transaction) -> bool {
     !all.iter().all(right)
 }
 
-/// T12: no SWR or OWR.
+/// T12: nobody wrote it.
 fn finding_4(transaction: &Transaction) -> bool {
     transaction.writers.is_empty()
 }
@@ -86,7 +86,7 @@ fn has_writer(transaction: &Transaction, designations: &[&[u8; 2]]) -> bool {
 /// Those of 6 and 7.
 const ADAPTERS: [&[u8; 2]; 5] = [b"AR", b"AD", b"SR", b"SA", b"TR"];
 
-/// T15: no writer CA, A or C.
+/// T15: nobody wrote its words or its music first.
 fn finding_5(transaction: &Transaction) -> bool {
     !has_writer(transaction, &[b"CA", b"A ", b"C "])
 }
@@ -95,28 +95,28 @@ fn version(header: &[u8]) -> &[u8] {
     field(header, 143, 3)
 }
 
-/// T10: version type MOD and no writer AR, AD, SR, SA, TR.
+/// T10: a version, but nobody adapted it.
 fn finding_6(transaction: &Transaction) -> bool {
     version(transaction.header) == b"MOD" && !has_writer(transaction, &ADAPTERS)
 }
 
-/// T23: ORI and such a writer.
+/// T23: an original, but somebody adapted it.
 fn finding_7(transaction: &Transaction) -> bool {
     version(transaction.header) == b"ORI" && has_writer(transaction, &ADAPTERS)
 }
 
-/// T53: category SER without INS or IND.
+/// T53: a serious work without its instruments.
 fn finding_9(transaction: &Transaction) -> bool {
     field(transaction.header, 127, 3) == b"SER" && !transaction.has(&[b"INS", b"IND"])
 }
 
-/// T45: MUS and a writer CA, A, SA or TR.
+/// T45: music alone, but somebody wrote words.
 fn finding_10(transaction: &Transaction) -> bool {
     let relationship = field(transaction.header, 137, 3);
     relationship == b"MUS" && has_writer(transaction, &[b"CA", b"A ", b"SA", b"TR"])
 }
 
-/// More than one EWT, or more than one VER.
+/// The entire work or the original is named twice.
 fn finding_15(transaction: &Transaction) -> bool {
     transaction.number_of(&[b"EWT"]) > 1 || transaction.number_of(&[b"VER"]) > 1
 }

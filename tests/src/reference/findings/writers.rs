@@ -6,14 +6,14 @@ use super::transaction::FULL;
 use crate::reference::field;
 use crate::reference::values::{blank, entered};
 
-/// The writer designations; one letter is followed by a space.
+/// What a writer can be.
 pub const DESIGNATIONS: [&[u8; 2]; 9] = [
     b"CA", b"A ", b"C ", b"AR", b"AD", b"SR", b"SA", b"TR", b"PA",
 ];
 
 pub struct Writer<'a> {
     text: &'a [u8],
-    /// PR, MR and SR; a field that isn't five digits counts 0.
+    /// PR, MR and SR, 0 for what is no share.
     pub shares: [u64; 3],
 }
 
@@ -55,22 +55,22 @@ impl<'a> Writer<'a> {
             | bit(42, self.finding_42())
     }
 
-    /// TR: SWR last name blank.
+    /// TR: the submitter's writer without a last name.
     fn finding_38(&self) -> bool {
         self.is_swr() && blank(field(self.text, 29, 45))
     }
 
-    /// TR: SWR designation not in table.
+    /// TR: the submitter's writer is nothing that a writer can be.
     fn finding_39(&self) -> bool {
         self.is_swr() && !self.known_designation()
     }
 
-    /// FR spaces: OWR designation entered, not in table.
+    /// FR to spaces: another writer is something else.
     fn finding_40(&self) -> bool {
         !self.is_swr() && entered(self.designation()) && !self.known_designation()
     }
 
-    /// TR: share not five digits or over 10000.
+    /// TR: no share, or more than all.
     fn finding_41(&self) -> bool {
         let shares = shares(self.text, SHARES);
         shares
@@ -78,7 +78,7 @@ impl<'a> Writer<'a> {
             .any(|share| share.is_none_or(|share| share > FULL))
     }
 
-    /// TR: SWR party number blank.
+    /// TR: the submitter's writer without a number.
     fn finding_42(&self) -> bool {
         self.is_swr() && blank(field(self.text, 20, 9))
     }

@@ -324,7 +324,7 @@ fn refusal_11() {
     assert_eq!(numbering(&file, &mut out), passes(1, 1, 6));
     assert_eq!(out[..file.len()], file);
     assert_eq!(&out[file.len()..], b"xxx");
-    // A refusal writes nothing.
+    // Nothing is written.
     let mut out = vec![b'x'; file.len()];
     assert_eq!(numbering(&file[..file.len() - 1], &mut out), refusal(4, 5));
     assert!(out.iter().all(|&b| b == b'x'));
