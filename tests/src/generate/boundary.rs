@@ -58,6 +58,15 @@ const BOUNDARIES: &[Boundary] = &[
         Calls::Check,
         |_| join(&of_writers(&[(42_950, 99_999), (1, 20_246)])),
     ),
+    // 2^32, and more publishers of one chain than sixteen bits count.
+    (
+        "42,951 publishers whose total is 0 in 32 bits",
+        Calls::Check,
+        |_| join(&of_publishers(&[(42_950, 99_999), (1, 10_246)])),
+    ),
+    ("65,537 publishers of one chain", Calls::Check, |_| {
+        join(&of_publishers(&[(65_537, 1)]))
+    }),
     ("92,000 writers at 99999", Calls::Check, |_| {
         join(&of_writers(&[(92_000, 99_999)]))
     }),
@@ -313,6 +322,17 @@ fn of_details(random: &mut Random) -> Vec<Vec<u8>> {
     types.extend([named("GRT"), named("TRL")]);
     assert_eq!(types.len(), MOST_RECORDS);
     write(&types, random)
+}
+
+/// One transaction of E publishers, all of one chain: so many with this share
+/// of each right.
+fn of_publishers(shares: &[(usize, usize)]) -> Vec<Vec<u8>> {
+    let mut work = works::plain_work();
+    for &(number, share) in shares {
+        let publisher = works::publisher("SPU", "E ", [share; 3]);
+        work.splice(1..1, vec![publisher; number]);
+    }
+    works::file("NWR", vec![work])
 }
 
 /// One transaction of writers: so many with this share of each right.

@@ -203,12 +203,14 @@ fn promises_of_numbering() {
 #[test]
 fn boundary_answers() {
     // The refusals of the calls in their order, 0 for passed.
-    let expected_answers: [&[u64]; 32] = [
+    let expected_answers: [&[u64]; 34] = [
         &[3, 3],
         &[6, 6],
         &[5, 5],
         &[4, 4, 4],
         &[4, 4],
+        &[0],
+        &[0],
         &[0],
         &[0],
         &[0, 0, 0],
@@ -248,15 +250,24 @@ fn boundary_answers() {
     assert!(case(each::FIRST + each::number()).is_none());
 }
 
-/// Writers' shares whose total does not fit 32 bits.
+/// Totals and numbers that do not fit 32 or 16 bits.
 #[test]
 fn large_totals() {
-    for kind in ["92,000 writers", "42,951 writers"] {
+    for (kind, header, detail) in [
+        ("92,000 writers", vec![2, 3], vec![41]),
+        ("42,951 writers", vec![2, 3], vec![41]),
+        ("42,951 publishers", vec![1, 3, 11], vec![30]),
+        ("65,537 publishers", vec![1, 3, 11], vec![]),
+    ] {
         let mut cases = limits().into_iter().map(|seed| case(seed).unwrap());
         let case = cases.find(|case| case.kind.starts_with(kind)).unwrap();
         let reply = expected(&case.request(Call::Within, Guard::None));
-        assert_eq!(reply.set(2), 0b1100);
-        assert_eq!(reply.set(3), 1 << 41);
+        let set = |findings: Vec<u32>| findings.iter().map(|n| 1 << n).sum::<u64>();
+        assert_eq!(
+            (reply.set(2), reply.set(3)),
+            (set(header), set(detail)),
+            "{kind}"
+        );
     }
 }
 

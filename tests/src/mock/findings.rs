@@ -130,6 +130,28 @@ fn owns(record: &[u8]) -> bool {
     starts(record).iter().any(|&start| share(record, start) > 0)
 }
 
+/// Totals of the submitter's chains in so many bits, and finding 12 where all
+/// of a chain's come to 0 only by that.
+fn totals_of_chains_in(asked: &Asked, bits: u32) -> Reply {
+    asked.judged(|_, work, sets| {
+        let owner = |at: &&usize| {
+            let record = work[**at];
+            is(record, &["SPU"]) && (is_e(record) || is_aq_spu(record))
+        };
+        let lost = |chain: &Vec<usize>| {
+            let total = |right: usize| {
+                let owners = chain.iter().filter(owner);
+                owners
+                    .map(|&at| share(work[at], starts(work[at])[right]))
+                    .sum::<u64>()
+            };
+            is(work[chain[0]], &["SPU"])
+                && (0..3).all(|right| total(right) & ((1 << bits) - 1) == 0)
+        };
+        sets[0] |= u64::from(chains(work).iter().any(lost)) << 12;
+    })
+}
+
 fn iswc_without_1(record: &[u8]) -> bool {
     let iswc = part(record, 96, 11);
     let digits = &iswc[1..];
@@ -289,6 +311,27 @@ pub const FAULTS: &[Fault] = &[
     ("11-without-00", |asked| {
         asked.as_if(&[11], |record| replace(record, &PUBLISHERS, 20, "00", "  "))
     }),
+    ("11-count-8-bits", |asked| {
+        asked.judged(|_, work, sets| {
+            let es = |chain: &Vec<usize>| chain.iter().filter(|&&at| is_e(work[at])).count();
+            let chains = chains(work);
+            if chains.iter().all(|chain| matches!(es(chain) % 256, 0 | 1)) {
+                let any = chains.iter().any(|chain| es(chain) > 255);
+                sets[0] &= !(u64::from(any) << 11);
+            }
+        })
+    }),
+    ("11-count-16-bits, large", |asked| {
+        asked.judged(|_, work, sets| {
+            if work.iter().filter(|r| is(r, &PUBLISHERS)).count() == 65_537 {
+                sets[0] &= !(1 << 11);
+            }
+        })
+    }),
+    ("12-total-16-bits", |asked| totals_of_chains_in(asked, 16)),
+    ("12-total-32-bits, large", |asked| {
+        totals_of_chains_in(asked, 32)
+    }),
     ("11-over-chains", |asked| {
         asked.judged(|_, work, sets| {
             let e = work.iter().filter(|r| is(r, &PUBLISHERS) && is_e(r));
@@ -342,6 +385,17 @@ pub const FAULTS: &[Fault] = &[
                 .filter(|record| is(record, &["EWT", "VER"]))
                 .count()
                 > 1
+        })
+    }),
+    ("15-count-8-bits", |asked| {
+        asked.judged(|_, work, sets| {
+            let number = |name| work.iter().filter(|record| is(record, &[name])).count();
+            if [number("EWT"), number("VER")]
+                .iter()
+                .all(|number| number % 256 < 2)
+            {
+                sets[0] &= !(1 << 15);
+            }
         })
     }),
     ("16-first-half", |asked| {
@@ -530,6 +584,16 @@ pub const FAULTS: &[Fault] = &[
             if is(record, &PUBLISHERS) {
                 record[120..123].fill(b' ');
                 record[128..131].fill(b' ');
+            }
+        })
+    }),
+    ("37-high-digits", |asked| {
+        // Takes a digit with its highest bit set for the digit.
+        asked.as_if(&[37], |record| {
+            if is(record, &PUBLISHERS) {
+                let tax = record[78..87].iter_mut();
+                tax.filter(|byte| (176..186).contains(*byte))
+                    .for_each(|byte| *byte -= 128);
             }
         })
     }),

@@ -20,6 +20,8 @@ pub fn all(all: &mut Vec<Case>) {
     shares(all);
     totals(all);
     wrapped(all);
+    many(all);
+    bytes(all);
     designations(all);
     publisher_types(all);
     indicators(all);
@@ -204,18 +206,28 @@ fn totals(all: &mut Vec<Case>) {
     }
 }
 
-/// Totals that are right once they are cut to fewer bits.
+/// Totals that are right, or nothing, once they are cut to fewer bits.
 fn wrapped(all: &mut Vec<Case>) {
     let mut works = Vec::new();
     for right in 0..3 {
         for name in ["SWR", "OPU", "SPU"] {
-            // Seven at 10000 and one at 5536; others for 2^8 and 2^17.
-            for last in [5536, 5535, 5537, 1072 + 65_536, 256, 512] {
+            // So many at 10000 and one more: 75536 and its neighbours, 65536,
+            // and others for fewer bits and one more.
+            for (full, last) in [
+                (7, 5536),
+                (7, 5535),
+                (7, 5537),
+                (6, 5536),
+                (6, 5537),
+                (7, 1072 + 65_536),
+                (0, 256),
+                (0, 65_536),
+            ] {
                 let mut work = plain_work();
                 set_shares(&mut work[1], [0; 3]);
-                for place in 0..8 {
+                for place in 0..=full {
                     let mut shares = [0; 3];
-                    shares[right] = if place < 7 { 10_000 } else { last };
+                    shares[right] = if place < full { 10_000 } else { last };
                     let record = match name {
                         "SWR" => writer("SWR", "C ", shares),
                         _ => publisher(name, "E ", shares),
@@ -228,6 +240,62 @@ fn wrapped(all: &mut Vec<Case>) {
         }
     }
     add(all, "wrapped total", 6, works);
+}
+
+/// More records of a kind than a byte counts.
+fn many(all: &mut Vec<Case>) {
+    for number in [255, 256, 257, 258] {
+        for record in [
+            publisher("SPU", "E ", [0, 1, 0]),
+            publisher("OPU", "  ", [0; 3]),
+            of("EWT", &[(20, "T")]),
+            of("VER", &[(20, "T")]),
+        ] {
+            let mut work = plain_work();
+            let at = if matches!(&record[..3], b"SPU" | b"OPU") {
+                1
+            } else {
+                work.len()
+            };
+            work.splice(at..at, vec![record; number]);
+            add(all, &format!("count of {number}"), 6, vec![work]);
+        }
+    }
+}
+
+/// Each byte that can stand in a text, in one place of each kind of field.
+fn bytes(all: &mut Vec<Case>) {
+    let mut works = Vec::new();
+    for byte in 32..=255 {
+        let mut work = plain_work();
+        let header = [
+            (20, " "),
+            (80, "EN"),
+            (96, "T0345246801"),
+            (107, "20240229"),
+        ];
+        for (start, text) in header {
+            put(&mut work[0], start, text);
+        }
+        work.insert(1, publisher("SPU", "E ", [0, 1, 0]));
+        work.insert(2, publisher("OPU", "E ", [0; 3]));
+        work.push(of("REC", &[(20, "00000000"), (88, "000000")]));
+        put(&mut work[1], 79, "123456789");
+        for (record, positions) in [
+            (0, &[50, 81, 101, 114, 129, 135, 139, 145][..]),
+            (1, &[21, 30, 75, 76, 78, 83, 115, 120]),
+            (2, &[20, 76, 77, 128]),
+            (3, &[28, 73, 106, 134]),
+            (4, &[27, 93, 400]),
+        ] {
+            for &position in positions {
+                let mut work = work.clone();
+                work[record][position - 1] = byte;
+                works.push(work);
+            }
+        }
+    }
+    add(all, "byte", 6, works);
 }
 
 fn designations(all: &mut Vec<Case>) {
