@@ -102,7 +102,16 @@ impl Case {
     /// are just long enough.
     pub fn new(seed: u64, kind: String, file: Vec<u8>, calls: &[Call]) -> Case {
         let mut random = Random::new(seed);
-        let records = records_in(&file);
+        // Nothing for what is not asked.
+        let asked = |some: &[Call]| calls.iter().any(|call| some.contains(call));
+        let records = match asked(&[Call::Check, Call::Within]) {
+            true => records_in(&file),
+            false => 0,
+        };
+        let numbered = match asked(&[Call::Number, Call::Counted]) {
+            true => file.len(),
+            false => 0,
+        };
         Case {
             seed,
             kind,
@@ -110,7 +119,7 @@ impl Case {
             tolerance: 6,
             verdicts: random.pattern(records),
             findings: random.pattern(8 * records),
-            out: random.pattern(file.len()),
+            out: random.pattern(numbered),
             set: random.draw(),
             file,
             calls: calls.to_vec(),
