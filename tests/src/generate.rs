@@ -219,7 +219,7 @@ pub fn case(seed: u64) -> Option<Case> {
     let mut case = Case::new(seed, kind.name(), file, &calls);
     case.tables = tables;
     case.tolerance = tolerance;
-    if random.one_in(40) {
+    if random.one_in(32) {
         case.tolerance = lent::too_large(&mut random);
     }
     if random.one_in(20) {

@@ -127,8 +127,7 @@ impl Tally {
 fn least_answer(call: Call, answer: u64) -> u64 {
     match (call, answer) {
         (Call::Listing, 0) => 50,
-        (Call::Listing, 4 | 6 | 7) => 5,
-        (Call::Listing, 8..=10) => 1,
+        (Call::Listing, 4 | 6 | 7) => 3,
         (Call::Listing, TOO_LONG) => 3,
         (Call::Listing, _) => 0,
         (Call::Bits, 0) => 500,
@@ -140,7 +139,8 @@ fn least_answer(call: Call, answer: u64) -> u64 {
         (Call::Within, 3 | 5) | (Call::Number, 3 | 5) => 1,
         (_, 3 | 5) => 0,
         (Call::Counted, 0 | 4 | 6 | 7 | 10 | 11) => 50,
-        (_, 0 | 4 | 6 | 7) => 300,
+        (_, 0 | 4 | 6) => 300,
+        (_, 7) => 200,
         (Call::Check | Call::Within | Call::Structure, 8..=10) => 200,
         (Call::Check | Call::Within, 11) => 200,
         (Call::Number, 10 | 11) => 200,

@@ -47,9 +47,10 @@ impl Damage {
     }
 }
 
-pub const FAMILIES: [u32; 7] = [4, 6, 7, 8, 9, 10, 0];
+/// Those that others hide stand here twice.
+pub const FAMILIES: [u32; 10] = [4, 6, 7, 7, 8, 9, 9, 10, 10, 0];
 
-/// A damage of any family; each family as often as the others.
+/// A damage of any family, as often as it stands there.
 pub fn choose(random: &mut Random) -> &'static Damage {
     let family = random.of(&FAMILIES);
     let of_family: Vec<_> = all().iter().filter(|d| d.family == family).collect();
