@@ -1,0 +1,42 @@
+-- `lister::put_digits` meets its contract: what follows the zeros is a part of the digits. Assumes nothing.
+use native.Mathlib.Omega.{arith}
+use Rattle.lister.proofs.Words.{digits-put, digits-most}
+use borrow.Author.Needs.{needs}
+use Rattle.lister.proofs.put_digits.Statement.{statement}
+use Rattle.lister.proofs.put_digits.Tie as tie
+
+zeros-requires : tie.Need-zeros-requires
+zeros-requires c κs = search needs
+
+sub-put-word : tie.Need-sub-put-word
+sub-put-word c = search needs
+
+part-put-word-start : tie.Need-part-put-word-start
+part-put-word-start c = search needs
+
+part-put-word-end : tie.Need-part-put-word-end
+part-put-word-end c = search needs
+
+put-word-requires : tie.Need-put-word-requires
+put-word-requires c κs = search needs
+
+same-length : tie.Need-same-length
+same-length c = search needs
+
+returns : tie.Need-returns
+returns c = 
+    let d = c .before .before .before .before .before .before .before .before .args .digits .now in
+    let k = c .before .before .before .before .before .zeros .result in
+    (digits-put d k (c .before .before .before .before .before .before .before .before .args .end) (c .before .before .before .before .before .zeros .ensures .0) (c .before .before .put-word .ensures .0), omega (arith, digits-most d k, c .before .before .put-word .ensures .1))
+
+pub put-digits-spec : {M : Type 1} → statement M
+put-digits-spec =
+    tie.close
+    (tie.spec
+    zeros-requires
+    sub-put-word
+    part-put-word-start
+    part-put-word-end
+    put-word-requires
+    same-length
+    returns)

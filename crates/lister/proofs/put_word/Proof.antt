@@ -1,0 +1,55 @@
+-- `lister::put_word` meets its contract: the part before the last byte comes back as the word. Assumes nothing.
+use mathlib.Core.Path.{refl}
+use Prim.Native.Nat.{_+_, _-_}
+use native.Mathlib.Omega.{arith}
+use lib.ListN.{length, take, drop}
+use borrow.Rule.Slice.PartMut.{mid-len}
+use Rattle.lister.proofs.Words.{word-put}
+use borrow.Author.Needs.{needs}
+use Rattle.lister.proofs.put_word.Statement.{statement}
+use Rattle.lister.proofs.put_word.Tie as tie
+
+add-e : tie.Need-add-e
+add-e c = search needs
+
+sub-copy : tie.Need-sub-copy
+sub-copy c = search needs
+
+part-copy-start : tie.Need-part-copy-start
+part-copy-start c = search needs
+
+part-copy-end : tie.Need-part-copy-end
+part-copy-end c = search needs
+
+copy-requires : tie.Need-copy-requires
+copy-requires c κs = search needs
+
+slice-write-out : tie.Need-slice-write-out
+slice-write-out c = search needs
+
+add-result : tie.Need-add-result
+add-result c = search needs
+
+same-length : tie.Need-same-length
+same-length c = search needs
+
+returns : tie.Need-returns
+returns c =
+    let g = c .before .before .before .before .before .before .args in
+    let e = g .at + length (g .word .now) in
+    let part = mid-len (g .at) e (g .out .now) (omega arith) in
+    (word-put (g .word .now) (take (e - g .at) (drop (g .at) (g .out .now))) _ (g .out .now) (g .at) e (g .end) refl (omega arith) (omega (arith, part)) (c .before .before .copy .ensures .1), refl)
+
+pub put-word-spec : {M : Type 1} → statement M
+put-word-spec =
+    tie.close
+    (tie.spec
+    add-e
+    sub-copy
+    part-copy-start
+    part-copy-end
+    copy-requires
+    slice-write-out
+    add-result
+    same-length
+    returns)

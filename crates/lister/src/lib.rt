@@ -1,0 +1,180 @@
+// The listing of a file, written into a lent buffer: one line for the answer of the check, then one for each record of a file that passes.
+// Each function writes from a place on and answers the place behind what it wrote.
+use answers::Answer;
+use answers::MOST_RECORDS;
+ghost use mathlib.Core.Path.{_≡_};
+ghost use mathlib.Core.List.{[], _∷_, _++_};
+ghost use Prim.Native.Nat.{_+_, _*_, _<_, _≤_};
+ghost use lib.ListN.{length, drop};
+ghost use Rattle.format.specs.Ascii.{ascii};
+ghost use Rattle.format.specs.Table.{unknown};
+ghost use Rattle.format.specs.Lines.{lines};
+ghost use Rattle.format.specs.Structure.{refused, passed};
+ghost use Rattle.format.specs.Numbering.{recordsIn};
+ghost use Rattle.rules.specs.Findings.{places};
+ghost use Rattle.rules.specs.Listing.{withoutZeros, figure, lowestWord, recordLine, answerLine, recordLines};
+ghost use Rattle.answers.specs.Numbers.{answerOf};
+ghost use Rattle.structure.specs.Cursor.{Here};
+ghost use Rattle.lister.specs.Put.{Put, answerIn};
+ghost use Rattle.lister.specs.Read.{setsIn};
+
+const SPACE: u8 = 32;
+const LF: u8 = 10;
+
+// ---- words
+
+// A word, and the byte that stands behind it.
+fn put_word(word: &[u8], end: u8, out: &mut [u8], at: usize) -> usize
+    requires { ⌜ at + length (now word) < length (now out) ⌝ }
+    ensures { λ r. ⌜ Put at (now (word .entry) ++ end ∷ []) (now (out .entry)) (now (out .exit)) r ⌝ }
+    ensures { λ r. ⌜ r ≡ at + length (now (word .entry)) + 1 ⌝ }
+{
+    let e = at + word.len();
+    bytes::copy(word, &mut out[at..e]);
+    out[e] = end;
+    e + 1
+}
+
+// How many zeros stand before the digits that are written: all that do, but not the last digit.
+fn zeros(digits: &[u8]) -> usize
+    ensures { λ r. ⌜ drop r (now (digits .entry)) ≡ withoutZeros (now (digits .entry)) ⌝ }
+    ensures { λ r. ⌜ r ≤ length (now (digits .entry)) ⌝ }
+{
+    let mut i = 0;
+    while i + 1 < digits.len() {
+        if digits[i] != 48 {
+            return i;
+        }
+        i += 1;
+    }
+    i
+}
+
+fn put_digits(digits: &[u8], end: u8, out: &mut [u8], at: usize) -> usize
+    requires { ⌜ at + length (now digits) < length (now out) ⌝ }
+    ensures { λ r. ⌜ Put at (withoutZeros (now (digits .entry)) ++ end ∷ []) (now (out .entry)) (now (out .exit)) r ⌝ }
+    ensures { λ r. ⌜ r ≤ at + length (now (digits .entry)) + 1 ⌝ }
+{
+    let from = zeros(digits);
+    put_word(&digits[from..], end, out, at)
+}
+
+// A number, and the byte that stands behind it.
+fn put_figure(n: u64, end: u8, out: &mut [u8], at: usize) -> usize
+    requires { ⌜ at + 11 ≤ length (now out) ⌝ }
+    ensures { λ r. ⌜ Put at (figure n ++ end ∷ []) (now (out .entry)) (now (out .exit)) r ⌝ }
+    ensures { λ r. ⌜ r ≤ at + 11 ⌝ }
+{
+    let mut digits = [0u8; 10];
+    text::decimal(n, &mut digits);
+    put_digits(&digits, end, out, at)
+}
+
+// ---- the line of a record
+
+// The last word of a record's line, and LF.
+fn put_lowest(set: u64, out: &mut [u8], at: usize) -> usize
+    requires { ⌜ at + 11 ≤ length (now out) ⌝ }
+    ensures { λ r. ⌜ Put at (lowestWord (places 64 set) ++ 10 ∷ []) (now (out .entry)) (now (out .exit)) r ⌝ }
+    ensures { λ r. ⌜ r ≤ at + 11 ⌝ }
+{
+    if sets::count(set) == 0 {
+        return put_word(b"-", LF, out, at);
+    }
+    put_figure(sets::lowest(set) as u64, LF, out, at)
+}
+
+// The line of the record with that number, those three bytes of type, that verdict and that set of findings.
+fn put_record(number: u64, kind: &[u8], verdict: u64, set: u64, out: &mut [u8], at: usize) -> usize
+    requires { ⌜ (length (now kind) ≡ 3) × (at + 48 ≤ length (now out)) ⌝ }
+    ensures { λ r. ⌜ Put at (recordLine number (now (kind .entry)) verdict (places 64 set)) (now (out .entry)) (now (out .exit)) r ⌝ }
+    ensures { λ r. ⌜ r ≤ at + 48 ⌝ }
+{
+    let a = put_figure(number, SPACE, out, at);
+    let b = put_word(kind, SPACE, out, a);
+    let c = put_figure(verdict, SPACE, out, b);
+    let d = put_figure(sets::count(set) as u64, SPACE, out, c);
+    put_lowest(set, out, d)
+}
+
+// ---- the line of the answer
+
+// An answer in numbers: how many groups, transactions and records passed, or a refusal's number and place.
+struct Told {
+    passes: bool,
+    first: u64,
+    second: u64,
+    third: u64,
+}
+
+fn refusal(number: u64, place: usize) -> Told
+    ensures { λ r. ⌜ answerIn r ≡ refused number place ⌝ }
+{
+    Told {
+        passes: false,
+        first: number,
+        second: place as u64,
+        third: 0,
+    }
+}
+
+fn numbers_of(a: Answer) -> Told
+    ensures { λ r. ⌜ answerIn r ≡ answerOf a ⌝ }
+{
+    match a {
+        Answer::Tolerance => refusal(1, 0),
+        Answer::Table(i) => refusal(2, i),
+        Answer::Long => refusal(3, 0),
+        Answer::Line(i) => refusal(4, i),
+        Answer::Many => refusal(5, MOST_RECORDS),
+        Answer::Shape(i) => refusal(6, i),
+        Answer::Place(i) => refusal(7, i),
+        Answer::Number(i) => refusal(8, i),
+        Answer::Total(i) => refusal(9, i),
+        Answer::Version => refusal(10, 0),
+        Answer::Short => refusal(11, 0),
+        Answer::Passed(g, t, r) => Told {
+            passes: true,
+            first: g,
+            second: t,
+            third: r,
+        },
+    }
+}
+
+fn put_refused(number: u64, place: u64, out: &mut [u8]) -> usize
+    requires { ⌜ 64 ≤ length (now out) ⌝ }
+    ensures { λ r. ⌜ Put 0 (answerLine (refused number place)) (now (out .entry)) (now (out .exit)) r ⌝ }
+    ensures { λ r. ⌜ r ≤ 64 ⌝ }
+{
+    let a = put_word(b"REFUSED", SPACE, out, 0);
+    let b = put_figure(number, SPACE, out, a);
+    put_figure(place, LF, out, b)
+}
+
+fn put_passed(groups: u64, transactions: u64, records: u64, out: &mut [u8]) -> usize
+    requires { ⌜ 64 ≤ length (now out) ⌝ }
+    ensures { λ r. ⌜ Put 0 (answerLine (passed groups transactions records)) (now (out .entry)) (now (out .exit)) r ⌝ }
+    ensures { λ r. ⌜ r ≤ 64 ⌝ }
+{
+    let a = put_word(b"GROUPS", SPACE, out, 0);
+    let b = put_figure(groups, SPACE, out, a);
+    let c = put_word(b"TRANSACTIONS", SPACE, out, b);
+    let d = put_figure(transactions, SPACE, out, c);
+    let e = put_word(b"RECORDS", SPACE, out, d);
+    put_figure(records, LF, out, e)
+}
+
+// The first line.
+fn put_answer(a: Answer, out: &mut [u8]) -> usize
+    requires { ⌜ 64 ≤ length (now out) ⌝ }
+    ensures { λ r. ⌜ Put 0 (answerLine (answerOf a)) (now (out .entry)) (now (out .exit)) r ⌝ }
+    ensures { λ r. ⌜ r ≤ 64 ⌝ }
+{
+    let told = numbers_of(a);
+    if told.passes {
+        put_passed(told.first, told.second, told.third, out)
+    } else {
+        put_refused(told.first, told.second, out)
+    }
+}
