@@ -1,3 +1,4 @@
 -- The laws that the proofs cite.
 pub mod Words
 pub mod Texts
+pub mod Walk

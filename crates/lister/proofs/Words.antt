@@ -13,17 +13,22 @@ use Rattle.format.specs.Bytes.{Bytes, decimal}
 use Rattle.structure.proofs.Cursor.{to-end}
 use Rattle.rules.specs.Listing.{withoutZeros, figure}
 use Rattle.buffers.specs.Written.{splice}
-use Rattle.buffers.proofs.Splice.{set-splice, part-splice, length-splice, splice-on}
+use Rattle.buffers.proofs.Splice.{splice-nil, set-splice, part-splice, length-splice, splice-on}
 use Rattle.lister.specs.Put.{Put}
 
 -- ---- text put into a buffer
 
+pub nothing-put : (a : ℕ) (o : Bytes) → a ≤ length o → Put a [] o o a
+nothing-put a o h = record { fits = omega arith; text = sym (splice-nil a o); behind = omega arith }
+
+pub length-put : {a r : ℕ} {x o n : Bytes} → Put a x o n r → length n ≡ length o
+length-put {a} {x = x} {o = o} p = ap length (p .text) ∙ length-splice a x o (p .fits)
+
 -- more behind it
 pub then : {a r s : ℕ} {x y o n m : Bytes} → Put a x o n r → Put r y n m s → Put a (x ++ y) o m s
 then {a} {r} {s} {x} {y} {o} p q =
-    let same = ap length (p .text) ∙ length-splice a x o (p .fits) in
     record {
-      fits = omega (arith, length-append x y, q .fits, p .behind, same);
+      fits = omega (arith, length-append x y, q .fits, p .behind, length-put p);
       text = q .text ∙ rw (p .text, p .behind) (splice-on a x o (p .fits) y);
       behind = q .behind ∙ omega (arith, length-append x y, p .behind);
     }

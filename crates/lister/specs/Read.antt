@@ -1,13 +1,26 @@
--- Sets of findings read back from a findings buffer.
-use Prim.Native.Nat.{ℕ, zero, suc}
+-- The lines of records whose verdicts and findings stand in two buffers.
+use Prim.Native.Nat.{ℕ, zero, suc, _*_}
 use mathlib.Core.Bool.{Bool}
 use mathlib.Core.List.{List, [], _∷_}
-use lib.ListN.{take, drop}
+use lib.ListN.{length, take, drop, getD}
 use Rattle.format.specs.Bytes.{Bytes}
 use Rattle.rules.specs.Findings.{places}
+use Rattle.rules.specs.Listing.{recordLine, recordLines}
 use Rattle.text.specs.Words.{wordOf}
 
--- the first so many, of eight bytes each
+-- the first set in a findings buffer: eight bytes
+abbrev pub firstSet : Bytes → List Bool
+firstSet g = places 64 (wordOf (take 8 g))
+
+-- the first so many
 abbrev pub setsIn : ℕ → Bytes → List (List Bool)
 setsIn zero g = []
-setsIn (suc k) g = places 64 (wordOf (take 8 g)) ∷ setsIn k (drop 8 g)
+setsIn (suc k) g = firstSet g ∷ setsIn k (drop 8 g)
+
+-- of the record that stands at byte i of the file and has number n
+abbrev pub lineAt : Bytes → ℕ → ℕ → Bytes → Bytes → Bytes
+lineAt f i n v g = recordLine n (take 3 (drop i f)) (getD v n 0) (firstSet (drop (8 * n) g))
+
+-- of these records, the first having number n
+unfoldable pub linesFrom : Bytes → Bytes → ℕ → List Bytes → Bytes
+linesFrom v g n rs = recordLines n rs (drop n v) (setsIn (length rs) (drop (8 * n) g))

@@ -6,17 +6,16 @@ ghost use mathlib.Core.Path.{_≡_};
 ghost use mathlib.Core.List.{[], _∷_, _++_};
 ghost use Prim.Native.Nat.{_+_, _*_, _<_, _≤_};
 ghost use lib.ListN.{length, drop};
-ghost use Rattle.format.specs.Ascii.{ascii};
 ghost use Rattle.format.specs.Table.{unknown};
 ghost use Rattle.format.specs.Lines.{lines};
 ghost use Rattle.format.specs.Structure.{refused, passed};
 ghost use Rattle.format.specs.Numbering.{recordsIn};
 ghost use Rattle.rules.specs.Findings.{places};
-ghost use Rattle.rules.specs.Listing.{withoutZeros, figure, lowestWord, recordLine, answerLine, recordLines};
+ghost use Rattle.rules.specs.Listing.{withoutZeros, figure, lowestWord, recordLine, answerLine};
 ghost use Rattle.answers.specs.Numbers.{answerOf};
 ghost use Rattle.structure.specs.Cursor.{Here};
 ghost use Rattle.lister.specs.Put.{Put, answerIn};
-ghost use Rattle.lister.specs.Read.{setsIn};
+ghost use Rattle.lister.specs.Read.{lineAt, linesFrom};
 
 const SPACE: u8 = 32;
 const LF: u8 = 10;
@@ -177,4 +176,41 @@ fn put_answer(a: Answer, out: &mut [u8]) -> usize
     } else {
         put_refused(told.first, told.second, out)
     }
+}
+
+// ---- the lines of the records
+
+fn wide(b: u8) -> u64
+    ensures { λ r. ⌜ r ≡ b ⌝ }
+{
+    b as u64
+}
+
+// The line of the record of that number, which stands there.
+fn put_line(file: &[u8], at: usize, number: usize, verdicts: &[u8], findings: &[u8], out: &mut [u8], from: usize) -> usize
+    requires { ⌜ (at + 3 ≤ length (now file)) × (number < length (now verdicts)) × (8 * (number + 1) ≤ length (now findings)) × (from + 48 ≤ length (now out)) ⌝ }
+    ensures { λ r. ⌜ Put from (lineAt (now (file .entry)) at number (now (verdicts .entry)) (now (findings .entry))) (now (out .entry)) (now (out .exit)) r ⌝ }
+    ensures { λ r. ⌜ r ≤ from + 48 ⌝ }
+{
+    let end = 8 * (number + 1);
+    let start = end - 8;
+    let set = text::load_eight(&findings[start..end]);
+    let three = at + 3;
+    put_record(number as u64, &file[at..three], wide(verdicts[number]), set, out, from)
+}
+
+// A line for each record of a file that passes.
+fn put_records(file: &[u8], verdicts: &[u8], findings: &[u8], out: &mut [u8], start: usize) -> usize
+    requires { ⌜ Here (now file) 0 unknown (recordsIn (lines (now file))) × (length (recordsIn (lines (now file))) ≤ length (now verdicts)) × (8 * length (recordsIn (lines (now file))) ≤ length (now findings)) × (start + 10 * length (now file) ≤ length (now out)) ⌝ }
+    ensures { λ r. ⌜ Put start (linesFrom (now (verdicts .entry)) (now (findings .entry)) 0 (recordsIn (lines (now (file .entry))))) (now (out .entry)) (now (out .exit)) r ⌝ }
+{
+    let mut at = 0;
+    let mut number = 0;
+    let mut place = start;
+    while at < file.len() {
+        place = put_line(file, at, number, verdicts, findings, out, place);
+        at = lines::text_end(file, at) + 2;
+        number += 1;
+    }
+    place
 }
