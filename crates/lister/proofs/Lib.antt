@@ -2,3 +2,6 @@
 pub mod Words
 pub mod Texts
 pub mod Walk
+pub mod Back
+pub mod Each
+pub mod Whole

@@ -8,7 +8,6 @@ use mathlib.Core.List.{List, [], _∷_, _++_, append-assoc, append-nil}
 use lib.ListN.{length, take, drop, getD, drop-of-length-le}
 use lib.Seq.{take-take, drop-drop, drop-cons}
 use Rattle.format.specs.Bytes.{Bytes}
-use Rattle.format.specs.Table.{unknown}
 use Rattle.format.specs.Cwr22.{cwr22}
 use Rattle.format.specs.Lines.{lines}
 use Rattle.format.specs.Checks.{check6}
@@ -19,10 +18,9 @@ use Rattle.rules.specs.Listing.{recordLine}
 use Rattle.text.specs.Words.{wordOf}
 use Rattle.lines.specs.Scan.{textLength}
 use Rattle.structure.specs.Rest.{isGood}
-use Rattle.structure.specs.Cursor.{Here}
 use Rattle.structure.proofs.Here.{recordAt, fits, here-three, records-here, fine-behind, all-behind}
 use Rattle.lister.specs.Put.{Put}
-use Rattle.lister.specs.Read.{firstSet, lineAt, linesFrom}
+use Rattle.lister.specs.Read.{Listable, firstSet, lineAt, linesFrom}
 use Rattle.lister.proofs.Words.{nothing-put, then}
 
 -- the records of a file from a byte on
@@ -66,15 +64,15 @@ line-put f i n v g e x w at-end is-set is-verdict p =
 
 -- ---- start and end
 
-pub going-start : (f v g : Bytes) (start : ℕ) (old : Bytes) → Here f 0 unknown (recordsIn (lines f)) → length (recordsIn (lines f)) ≤ length v
-    → 8 * length (recordsIn (lines f)) ≤ length g → start + 10 * length f ≤ length old → Going f v g start old old 0 0 start
-going-start f v g start old h a b room =
+pub going-start : (f v g : Bytes) (start : ℕ) (old : Bytes) → Listable f v g → start + 10 * length f ≤ length old
+    → Going f v g start old old 0 0 start
+going-start f v g start old l room =
     record {
       within = omega arith;
-      fine = h .good;
-      all = h .typed;
-      inV = omega arith;
-      inG = omega arith;
+      fine = l .here .good;
+      all = l .here .typed;
+      inV = omega (arith, l .inV);
+      inG = omega (arith, l .inG);
       done = [];
       put = nothing-put start old (omega arith);
       owed = refl;

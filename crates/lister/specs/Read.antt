@@ -1,12 +1,22 @@
 -- The lines of records whose verdicts and findings stand in two buffers.
-use Prim.Native.Nat.{ℕ, zero, suc, _*_}
+use Prim.Native.Nat.{ℕ, zero, suc, _*_, _≤_}
 use mathlib.Core.Bool.{Bool}
 use mathlib.Core.List.{List, [], _∷_}
 use lib.ListN.{length, take, drop, getD}
 use Rattle.format.specs.Bytes.{Bytes}
+use Rattle.format.specs.Table.{unknown}
+use Rattle.format.specs.Lines.{lines}
+use Rattle.format.specs.Numbering.{recordsIn}
 use Rattle.rules.specs.Findings.{places}
 use Rattle.rules.specs.Listing.{recordLine, recordLines}
 use Rattle.text.specs.Words.{wordOf}
+use Rattle.structure.specs.Cursor.{Here}
+
+-- what the lines are read from: a file of right records, and an entry for each of them in both buffers
+pub record Listable (f v g : Bytes) : Type 0 where
+  pub here : Here f 0 unknown (recordsIn (lines f))
+  pub inV : length (recordsIn (lines f)) ≤ length v
+  pub inG : 8 * length (recordsIn (lines f)) ≤ length g
 
 -- the first set in a findings buffer: eight bytes
 abbrev pub firstSet : Bytes → List Bool

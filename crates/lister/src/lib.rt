@@ -3,19 +3,18 @@
 use answers::Answer;
 use answers::MOST_RECORDS;
 ghost use mathlib.Core.Path.{_≡_};
+ghost use mathlib.Core.Bool.{true};
 ghost use mathlib.Core.List.{[], _∷_, _++_};
 ghost use Prim.Native.Nat.{_+_, _*_, _<_, _≤_};
 ghost use lib.ListN.{length, drop};
-ghost use Rattle.format.specs.Table.{unknown};
 ghost use Rattle.format.specs.Lines.{lines};
 ghost use Rattle.format.specs.Structure.{refused, passed};
 ghost use Rattle.format.specs.Numbering.{recordsIn};
 ghost use Rattle.rules.specs.Findings.{places};
-ghost use Rattle.rules.specs.Listing.{withoutZeros, figure, lowestWord, recordLine, answerLine};
-ghost use Rattle.answers.specs.Numbers.{answerOf};
-ghost use Rattle.structure.specs.Cursor.{Here};
+ghost use Rattle.rules.specs.Listing.{withoutZeros, figure, lowestWord, recordLine, answerLine, listedBehind};
+ghost use Rattle.answers.specs.Numbers.{answerOf, isPassed};
 ghost use Rattle.lister.specs.Put.{Put, answerIn};
-ghost use Rattle.lister.specs.Read.{lineAt, linesFrom};
+ghost use Rattle.lister.specs.Read.{Listable, lineAt, linesFrom};
 
 const SPACE: u8 = 32;
 const LF: u8 = 10;
@@ -199,9 +198,9 @@ fn put_line(file: &[u8], at: usize, number: usize, verdicts: &[u8], findings: &[
     put_record(number as u64, &file[at..three], wide(verdicts[number]), set, out, from)
 }
 
-// A line for each record of a file that passes.
+// A line for each record.
 fn put_records(file: &[u8], verdicts: &[u8], findings: &[u8], out: &mut [u8], start: usize) -> usize
-    requires { ⌜ Here (now file) 0 unknown (recordsIn (lines (now file))) × (length (recordsIn (lines (now file))) ≤ length (now verdicts)) × (8 * length (recordsIn (lines (now file))) ≤ length (now findings)) × (start + 10 * length (now file) ≤ length (now out)) ⌝ }
+    requires { ⌜ Listable (now file) (now verdicts) (now findings) × (start + 10 * length (now file) ≤ length (now out)) ⌝ }
     ensures { λ r. ⌜ Put start (linesFrom (now (verdicts .entry)) (now (findings .entry)) 0 (recordsIn (lines (now (file .entry))))) (now (out .entry)) (now (out .exit)) r ⌝ }
 {
     let mut at = 0;
@@ -213,4 +212,18 @@ fn put_records(file: &[u8], verdicts: &[u8], findings: &[u8], out: &mut [u8], st
         number += 1;
     }
     place
+}
+
+// ---- the whole
+
+// The listing of a file that has this answer and, where it passes, what the check left in the two buffers.
+fn put_outcome(file: &[u8], answer: Answer, verdicts: &[u8], findings: &[u8], out: &mut [u8]) -> usize
+    requires { ⌜ (isPassed (answerOf answer) ≡ true → Listable (now file) (now verdicts) (now findings)) × (64 + 10 * length (now file) ≤ length (now out)) ⌝ }
+    ensures { λ r. ⌜ Put 0 (answerLine (answerOf answer) ++ listedBehind (answerOf answer) (linesFrom (now (verdicts .entry)) (now (findings .entry)) 0 (recordsIn (lines (now (file .entry)))))) (now (out .entry)) (now (out .exit)) r ⌝ }
+{
+    let first = put_answer(answer, out);
+    if answer.passes() {
+        return put_records(file, verdicts, findings, out, first);
+    }
+    first
 }
