@@ -9,7 +9,7 @@ use lib.Dec.{eqb}
 use lib.ListN.{length, take, drop}
 use lib.Seq.{take-at, drop-at}
 use borrow.Author.Tests.{eqb-true, eqb-false}
-use Rattle.format.specs.Bytes.{Bytes, All}
+use Rattle.format.specs.Bytes.{Bytes}
 use Rattle.format.proofs.Tests.{by-cases}
 use Rattle.rules.specs.Findings.{setOf, places, bytesOf, countOf, lowestOf}
 use Rattle.rules.specs.Verdicts.{findingBytes}
@@ -17,6 +17,7 @@ use Rattle.rules.specs.Listing.{figure, lowestWord, recordLine, recordLines}
 use Rattle.rules.proofs.Joined.{length-bytes}
 use Rattle.sets.proofs.Laws.{count-of-set, lowest-of-set}
 use Rattle.text.specs.Words.{wordOf}
+use Rattle.lister.proofs.Small.{Small}
 use Rattle.lister.specs.Read.{firstSet, setsIn, linesFrom}
 
 -- ---- the word of a number's bytes
@@ -62,7 +63,7 @@ module _ (s : List Bool) (fits : length s ≤ 64) where
 
 -- with more behind the verdicts and behind the findings
 lines-back : (n : ℕ) (rs : List Bytes) (vs : List ℕ) (ss : List (List Bool)) (v g : Bytes) → length vs ≡ length rs → length ss ≡ length rs
-    → All (λ s. length s ≤ 64) ss → recordLines n rs (vs ++ v) (setsIn (length rs) (findingBytes ss ++ g)) ≡ recordLines n rs vs ss
+    → Small ss → recordLines n rs (vs ++ v) (setsIn (length rs) (findingBytes ss ++ g)) ≡ recordLines n rs vs ss
 unfolding findingBytes
 lines-back n [] vs ss v g a b c = refl
 lines-back n (r ∷ rs) [] ss v g a b c = absurd (omega arith)
@@ -71,6 +72,6 @@ lines-back n (r ∷ rs) (x ∷ vs) (s ∷ ss) v g a b c =
     rw (append-assoc (bytesOf 8 (setOf s)) (findingBytes ss) g, set-back s (c .0) (findingBytes ss ++ g), drop-at (bytesOf 8 (setOf s)) (findingBytes ss ++ g) 8 (length-bytes 8 (setOf s)), line-back s (c .0) n r x, lines-back (suc n) rs vs ss v g (omega arith) (omega arith) (c .1))
 
 pub listed-back : (rs : List Bytes) (vs : List ℕ) (ss : List (List Bool)) (v g : Bytes) → length vs ≡ length rs → length ss ≡ length rs
-    → All (λ s. length s ≤ 64) ss → linesFrom (vs ++ v) (findingBytes ss ++ g) 0 rs ≡ recordLines 0 rs vs ss
+    → Small ss → linesFrom (vs ++ v) (findingBytes ss ++ g) 0 rs ≡ recordLines 0 rs vs ss
 unfolding linesFrom
 listed-back rs vs ss v g a b c = lines-back 0 rs vs ss v g a b c

@@ -3,5 +3,5 @@ pub mod Words
 pub mod Texts
 pub mod Walk
 pub mod Back
-pub mod Each
+pub mod Small
 pub mod Whole

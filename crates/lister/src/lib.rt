@@ -11,12 +11,14 @@ ghost use Rattle.format.specs.Lines.{lines};
 ghost use Rattle.format.specs.Structure.{refused, passed};
 ghost use Rattle.format.specs.Numbering.{recordsIn};
 ghost use Rattle.rules.specs.Findings.{places};
-ghost use Rattle.rules.specs.Listing.{withoutZeros, figure, lowestWord, recordLine, answerLine, listedBehind};
+ghost use Rattle.rules.specs.Values.{largestTolerance};
+ghost use Rattle.rules.specs.Listing.{withoutZeros, figure, lowestWord, recordLine, answerLine, listedBehind, listed, listingTables, listing};
 ghost use Rattle.answers.specs.Numbers.{answerOf, isPassed};
 ghost use Rattle.lister.specs.Put.{Put, answerIn};
 ghost use Rattle.lister.specs.Read.{Listable, lineAt, linesFrom};
 
 const SPACE: u8 = 32;
+
 const LF: u8 = 10;
 
 // ---- words
@@ -186,7 +188,15 @@ fn wide(b: u8) -> u64
 }
 
 // The line of the record of that number, which stands there.
-fn put_line(file: &[u8], at: usize, number: usize, verdicts: &[u8], findings: &[u8], out: &mut [u8], from: usize) -> usize
+fn put_line(
+    file: &[u8],
+    at: usize,
+    number: usize,
+    verdicts: &[u8],
+    findings: &[u8],
+    out: &mut [u8],
+    from: usize,
+) -> usize
     requires { ⌜ (at + 3 ≤ length (now file)) × (number < length (now verdicts)) × (8 * (number + 1) ≤ length (now findings)) × (from + 48 ≤ length (now out)) ⌝ }
     ensures { λ r. ⌜ Put from (lineAt (now (file .entry)) at number (now (verdicts .entry)) (now (findings .entry))) (now (out .entry)) (now (out .exit)) r ⌝ }
     ensures { λ r. ⌜ r ≤ from + 48 ⌝ }
@@ -195,7 +205,14 @@ fn put_line(file: &[u8], at: usize, number: usize, verdicts: &[u8], findings: &[
     let start = end - 8;
     let set = text::load_eight(&findings[start..end]);
     let three = at + 3;
-    put_record(number as u64, &file[at..three], wide(verdicts[number]), set, out, from)
+    put_record(
+        number as u64,
+        &file[at..three],
+        wide(verdicts[number]),
+        set,
+        out,
+        from,
+    )
 }
 
 // A line for each record.
@@ -217,7 +234,13 @@ fn put_records(file: &[u8], verdicts: &[u8], findings: &[u8], out: &mut [u8], st
 // ---- the whole
 
 // The listing of a file that has this answer and, where it passes, what the check left in the two buffers.
-fn put_outcome(file: &[u8], answer: Answer, verdicts: &[u8], findings: &[u8], out: &mut [u8]) -> usize
+fn put_outcome(
+    file: &[u8],
+    answer: Answer,
+    verdicts: &[u8],
+    findings: &[u8],
+    out: &mut [u8],
+) -> usize
     requires { ⌜ (isPassed (answerOf answer) ≡ true → Listable (now file) (now verdicts) (now findings)) × (64 + 10 * length (now file) ≤ length (now out)) ⌝ }
     ensures { λ r. ⌜ Put 0 (answerLine (answerOf answer) ++ listedBehind (answerOf answer) (linesFrom (now (verdicts .entry)) (now (findings .entry)) 0 (recordsIn (lines (now (file .entry)))))) (now (out .entry)) (now (out .exit)) r ⌝ }
 {
@@ -226,4 +249,43 @@ fn put_outcome(file: &[u8], answer: Answer, verdicts: &[u8], findings: &[u8], ou
         return put_records(file, verdicts, findings, out, first);
     }
     first
+}
+
+// The listing of a file that is not too long, by a check with the program's tables and tolerance.
+fn put_checked(
+    file: &[u8],
+    verdicts: &mut [u8; MOST_RECORDS],
+    findings: &mut [u8; 8 * MOST_RECORDS],
+    out: &mut [u8],
+) -> usize
+    requires { ⌜ 64 + 10 * length (now file) ≤ length (now out) ⌝ }
+    ensures { λ r. ⌜ Put 0 (listed listingTables largestTolerance (now (file .entry))) (now (out .entry)) (now (out .exit)) r ⌝ }
+{
+    let answer = cwr::check_short(
+        file,
+        b"ENFRDE",
+        b"035044058",
+        b"POPJAZSER",
+        verdicts,
+        findings,
+    );
+    put_outcome(file, answer, verdicts, findings, out)
+}
+
+// The most bytes that are read, and what holds the listing of as many: a first line of at most 64 bytes, and ten for each that was read,
+// since a record has five at least and its line 48 at most.
+pub const MOST_INPUT: usize = 65536;
+
+pub const LISTING: usize = 655424;
+
+// The listing of an input, at the front of out; how many bytes it has.
+pub fn list(input: &[u8], out: &mut [u8; LISTING]) -> usize
+    ensures { λ r. ⌜ Put 0 (listing (now (input .entry))) (now (out .entry)) (now (out .exit)) r ⌝ }
+{
+    if MOST_INPUT < input.len() {
+        return put_word(b"INPUT TOO LONG", LF, out, 0);
+    }
+    let mut verdicts = [0u8; MOST_RECORDS];
+    let mut findings = [0u8; 8 * MOST_RECORDS];
+    put_checked(input, &mut verdicts, &mut findings, out)
 }

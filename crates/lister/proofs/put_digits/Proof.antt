@@ -24,7 +24,7 @@ same-length : tie.Need-same-length
 same-length c = search needs
 
 returns : tie.Need-returns
-returns c = 
+returns c =
     let d = c .before .before .before .before .before .before .before .before .args .digits .now in
     let k = c .before .before .before .before .before .zeros .result in
     (digits-put d k (c .before .before .before .before .before .before .before .before .args .end) (c .before .before .before .before .before .zeros .ensures .0) (c .before .before .put-word .ensures .0), omega (arith, digits-most d k, c .before .before .put-word .ensures .1))

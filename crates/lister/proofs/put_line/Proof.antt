@@ -52,7 +52,7 @@ same-length : tie.Need-same-length
 same-length c = search needs
 
 returns : tie.Need-returns
-returns c = 
+returns c =
     let g = c .before .before .before .before .before .before .before .before .before .before .before .before .before .args in
     let word = c .before .before .before .before .before .before .before .load-eight .ensures .0 in
     (line-put (g .file .now) (g .at) (g .number) (g .verdicts .now) (g .findings .now) (8 * (g .number + 1)) (c .before .before .before .before .before .before .before .load-eight .result) (c .before .before .before .before .wide .result) refl word (c .before .before .before .before .wide .ensures) (c .before .before .put-record .ensures .0), c .before .before .put-record .ensures .1)

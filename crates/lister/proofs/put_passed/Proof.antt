@@ -37,10 +37,10 @@ same-length c = search needs
 
 returns : tie.Need-returns
 returns c = (
-      passed-put (c .before .before .before .before .before .before .before .before .before .before .before .before .before .before .before .before .before .before .before .before .before .before .before .before .before .before .before .before .args .groups) (c .before .before .before .before .before .before .before .before .before .before .before .before .before .before .before .before .before .before .before .before .before .before .before .before .before .before .before .before .args .transactions) (c .before .before .before .before .before .before .before .before .before .before .before .before .before .before .before .before .before .before .before .before .before .before .before .before .before .before .before .before .args .records) (c .before .before .before .before .before .before .before .before .before .before .before .before .before .before .before .before .before .before .before .before .before .before .before .before .put-word .ensures .0) (c .before .before .before .before .before .before .before .before .before .before .before .before .before .before .before .before .before .before .before .before .put-figure .ensures .0)
+  passed-put (c .before .before .before .before .before .before .before .before .before .before .before .before .before .before .before .before .before .before .before .before .before .before .before .before .before .before .before .before .args .groups) (c .before .before .before .before .before .before .before .before .before .before .before .before .before .before .before .before .before .before .before .before .before .before .before .before .before .before .before .before .args .transactions) (c .before .before .before .before .before .before .before .before .before .before .before .before .before .before .before .before .before .before .before .before .before .before .before .before .before .before .before .before .args .records) (c .before .before .before .before .before .before .before .before .before .before .before .before .before .before .before .before .before .before .before .before .before .before .before .before .put-word .ensures .0) (c .before .before .before .before .before .before .before .before .before .before .before .before .before .before .before .before .before .before .before .before .put-figure .ensures .0)
       (c .before .before .before .before .before .before .before .before .before .before .before .before .before .before .before .put-word2 .ensures .0) (c .before .before .before .before .before .before .before .before .before .before .before .put-figure2 .ensures .0) (c .before .before .before .before .before .before .put-word3 .ensures .0) (c .before .before .put-figure3 .ensures .0),
-      omega (arith, c .before .before .before .before .before .before .before .before .before .before .before .before .before .before .before .before .before .before .before .before .before .before .before .before .put-word .ensures .1, c .before .before .before .before .before .before .before .before .before .before .before .before .before .before .before .before .before .before .before .before .put-figure .ensures .1, c .before .before .before .before .before .before .before .before .before .before .before .before .before .before .before .put-word2 .ensures .1, c .before .before .before .before .before .before .before .before .before .before .before .put-figure2 .ensures .1, c .before .before .before .before .before .before .put-word3 .ensures .1, c .before .before .put-figure3 .ensures .1),
-    )
+  omega (arith, c .before .before .before .before .before .before .before .before .before .before .before .before .before .before .before .before .before .before .before .before .before .before .before .before .put-word .ensures .1, c .before .before .before .before .before .before .before .before .before .before .before .before .before .before .before .before .before .before .before .before .put-figure .ensures .1, c .before .before .before .before .before .before .before .before .before .before .before .before .before .before .before .put-word2 .ensures .1, c .before .before .before .before .before .before .before .before .before .before .before .put-figure2 .ensures .1, c .before .before .before .before .before .before .put-word3 .ensures .1, c .before .before .put-figure3 .ensures .1),
+)
 
 pub put-passed-spec : {M : Type 1} → statement M
 put-passed-spec =

@@ -14,13 +14,13 @@ abbrev μ-loop : tie.MeasureT-loop
 μ-loop file verdicts findings out₀ start at₀ number₀ place₀ out at number place = length file - at
 
 loop-holds : tie.Need-loop-holds Inv-loop μ-loop
-loop-holds c = 
+loop-holds c =
     let g = c .before .before .before .before .args in
     let p = c .before .before .before .before .pre in
     going-start (g .file .now) (g .verdicts .now) (g .findings .now) (g .start) (g .out .now) (p .0) (p .1)
 
 put-line-requires : tie.Need-put-line-requires Inv-loop μ-loop
-put-line-requires c κs = 
+put-line-requires c κs =
     let inv = c .before .before .loop .inv in
     let here = c .before .loop-test .taken in
     let five = five-bytes (c .before .before .before .before .before .before .before .args .file .now) (c .before .before .before .before .before .before .before .args .verdicts .now) (c .before .before .before .before .before .before .before .args .findings .now) (c .before .before .before .before .before .before .before .args .start) (c .before .before .before .before .before .before .before .args .out .now) (c .before .before .loop .out) (c .before .before .loop .at) (c .before .before .loop .number) (c .before .before .loop .place) (c .before .before .loop .inv) here in

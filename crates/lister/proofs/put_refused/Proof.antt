@@ -22,9 +22,9 @@ same-length c = search needs
 
 returns : tie.Need-returns
 returns c = (
-      refused-put (c .before .before .before .before .before .before .before .before .before .before .before .before .before .before .args .number) (c .before .before .before .before .before .before .before .before .before .before .before .before .before .before .args .place) (c .before .before .before .before .before .before .before .before .before .before .put-word .ensures .0) (c .before .before .before .before .before .before .put-figure .ensures .0) (c .before .before .put-figure2 .ensures .0),
-      omega (arith, c .before .before .before .before .before .before .before .before .before .before .put-word .ensures .1, c .before .before .before .before .before .before .put-figure .ensures .1, c .before .before .put-figure2 .ensures .1),
-    )
+  refused-put (c .before .before .before .before .before .before .before .before .before .before .before .before .before .before .args .number) (c .before .before .before .before .before .before .before .before .before .before .before .before .before .before .args .place) (c .before .before .before .before .before .before .before .before .before .before .put-word .ensures .0) (c .before .before .before .before .before .before .put-figure .ensures .0) (c .before .before .put-figure2 .ensures .0),
+  omega (arith, c .before .before .before .before .before .before .before .before .before .before .put-word .ensures .1, c .before .before .before .before .before .before .put-figure .ensures .1, c .before .before .put-figure2 .ensures .1),
+)
 
 pub put-refused-spec : {M : Type 1} → statement M
 put-refused-spec =

@@ -1,0 +1,28 @@
+-- `listing::print_listing` meets its contract: the listing ends within the buffer. Assumes nothing.
+use Prim.Native.Nat.{_≤_}
+use native.Mathlib.Omega.{arith}
+use mathlib.Core.Path.{sym}
+use lib.ListN.{length}
+use lib.Seq.{length-take-le}
+use borrow.Author.Needs.{needs}
+use Rattle.lister.proofs.Words.{length-put}
+use Rattle.listing.proofs.print_listing.Statement.{statement}
+use Rattle.listing.proofs.print_listing.Tie as tie
+
+slice-aggregate-list : tie.Need-slice-aggregate-list
+slice-aggregate-list c = search needs
+
+list-requires : tie.Need-list-requires
+list-requires c κs = search needs
+
+print-requires : tie.Need-print-requires
+print-requires c κs =
+    let l = c .before .before .list in
+    let ends : l .result ≤ length (l .last .1 .0) = omega (arith, l .ensures .fits, l .ensures .behind, length-put (l .ensures)) in
+    (ends, sym (length-take-le (l .result) (l .last .1 .0) ends))
+
+returns : tie.Need-returns
+returns c = search needs
+
+pub print-listing-spec : {M : Type 1} → statement M
+print-listing-spec = tie.close (tie.spec slice-aggregate-list list-requires print-requires returns)
