@@ -1,19 +1,19 @@
 -- Sets of findings read back from the eight bytes of each: the lines are those of the sets. Assumes nothing.
-use Prim.Native.Nat.{ℕ, zero, suc, _+_, _*_, _/_, _%_, _^_, _<_, _≤_}
+use Prim.Native.Nat.{ℕ, zero, suc, _+_, _*_, _/_, _^_, _<_, _≤_}
 use native.Mathlib.Nat.{pow-suc, pow-le-pow-right}
 use native.Mathlib.Omega.{arith}
-use mathlib.Core.Path.{_≡_, refl, sym, ap, _∙_}
-use mathlib.Core.Bool.{Bool, true, false, cond}
+use mathlib.Core.Path.{_≡_, refl}
+use mathlib.Core.Bool.{Bool, true, false}
 use mathlib.Core.List.{List, [], _∷_, _++_, append-assoc}
 use lib.Dec.{eqb}
-use lib.ListN.{length, take, drop}
+use lib.ListN.{length}
 use lib.Seq.{take-at, drop-at}
-use borrow.Author.Tests.{eqb-true, eqb-false}
+use borrow.Author.Tests.{eqb-false}
 use Rattle.format.specs.Bytes.{Bytes}
 use Rattle.format.proofs.Tests.{by-cases}
-use Rattle.rules.specs.Findings.{setOf, places, bytesOf, countOf, lowestOf}
+use Rattle.rules.specs.Findings.{setOf, places, bytesOf, countOf}
 use Rattle.rules.specs.Verdicts.{findingBytes}
-use Rattle.rules.specs.Listing.{figure, lowestWord, recordLine, recordLines}
+use Rattle.rules.specs.Listing.{lowestWord, recordLine, recordLines}
 use Rattle.rules.proofs.Joined.{length-bytes}
 use Rattle.sets.proofs.Laws.{count-of-set, lowest-of-set}
 use Rattle.text.specs.Words.{wordOf}
@@ -69,7 +69,10 @@ lines-back n [] vs ss v g a b c = refl
 lines-back n (r ∷ rs) [] ss v g a b c = absurd (omega arith)
 lines-back n (r ∷ rs) (x ∷ vs) [] v g a b c = absurd (omega arith)
 lines-back n (r ∷ rs) (x ∷ vs) (s ∷ ss) v g a b c =
-    rw (append-assoc (bytesOf 8 (setOf s)) (findingBytes ss) g, set-back s (c .0) (findingBytes ss ++ g), drop-at (bytesOf 8 (setOf s)) (findingBytes ss ++ g) 8 (length-bytes 8 (setOf s)), line-back s (c .0) n r x, lines-back (suc n) rs vs ss v g (omega arith) (omega arith) (c .1))
+    let first = bytesOf 8 (setOf s) in
+    let rest = findingBytes ss ++ g in
+    rw (append-assoc first (findingBytes ss) g, set-back s (c .0) rest, drop-at first rest 8 (length-bytes 8 (setOf s)))
+    (rw (line-back s (c .0) n r x, lines-back (suc n) rs vs ss v g (omega arith) (omega arith) (c .1)))
 
 pub listed-back : (rs : List Bytes) (vs : List ℕ) (ss : List (List Bool)) (v g : Bytes) → length vs ≡ length rs → length ss ≡ length rs
     → Small ss → linesFrom (vs ++ v) (findingBytes ss ++ g) 0 rs ≡ recordLines 0 rs vs ss

@@ -1,7 +1,7 @@
 -- The words of a line put one behind the other. Assumes nothing.
 use Prim.Native.Nat.{ℕ}
 use native.Mathlib.Omega.{arith}
-use mathlib.Core.Path.{_≡_, sym, _∙_}
+use mathlib.Core.Path.{_≡_}
 use mathlib.Core.Bool.{Bool}
 use mathlib.Core.List.{List, [], _∷_, _++_}
 use lib.ListN.{length}
@@ -24,7 +24,9 @@ dash s k e z = rw (← e, eq-eqb k 0 z)
 pub lowest-is : (s : List Bool) (k l : ℕ) → k ≡ countOf s → (k ≡ 0 → ⊥) → l ≡ lowestOf s → lowestWord s ≡ figure l
 lowest-is s k l e z q = rw (← e, ne-eqb k 0 z, ← q)
 
-pub record-put : {a b c d e f : ℕ} {o₁ o₂ o₃ o₄ o₅ o₆ : Bytes} (n : ℕ) (kind : Bytes) (v k : ℕ) (s : List Bool) → length kind ≡ 3 → k ≡ countOf s
+pub record-put : {a b c d e f : ℕ} {o₁ o₂ o₃ o₄ o₅ o₆ : Bytes} (n : ℕ) (kind : Bytes) (v k : ℕ) (s : List Bool)
+    → length kind ≡ 3
+    → k ≡ countOf s
     → Put a (figure n ++ 32 ∷ []) o₁ o₂ b
     → Put b (kind ++ 32 ∷ []) o₂ o₃ c
     → Put c (figure v ++ 32 ∷ []) o₃ o₄ d

@@ -2,7 +2,7 @@
 use Prim.Native.Nat.{ℕ, suc, _+_, _-_, _*_, _<_, _≤_}
 use native.Mathlib.Numerals.{add-one}
 use native.Mathlib.Omega.{arith}
-use mathlib.Core.Path.{_≡_, refl, sym, ap, _∙_, subst}
+use mathlib.Core.Path.{_≡_, refl, sym, ap, _∙_}
 use mathlib.Core.Bool.{Bool, true}
 use mathlib.Core.List.{List, [], _∷_, _++_, append-assoc, append-nil}
 use lib.ListN.{length, take, drop, getD, drop-of-length-le}
@@ -112,10 +112,14 @@ module _ (f v g : Bytes) (start : ℕ) (old new : Bytes) (i n p : ℕ) (G : Goin
       ∙ first-line v g n (recordAt f i) (restAt f (i + textLength (drop i f) + 2)) verdict-there
       ∙ ap (λ (l : Bytes). l ++ linesFrom v g (n + 1) (restAt f (i + textLength (drop i f) + 2))) same-line
     where
-      same-line : recordLine n (recordAt f i) (getD v n 0) (firstSet (drop (8 * n) g)) ≡ lineAt f i n v g
+      set : List Bool
+      set = firstSet (drop (8 * n) g)
+
+      same-line : recordLine n (recordAt f i) (getD v n 0) set ≡ lineAt f i n v g
       same-line =
-          sym (by-type n (recordAt f i) (getD v n 0) (firstSet (drop (8 * n) g)))
-          ∙ ap (λ (t : Bytes). recordLine n t (getD v n 0) (firstSet (drop (8 * n) g))) (take-take 3 (textLength (drop i f)) (drop i f) (here-three f i here (G .fine) (G .all)))
+          sym (by-type n (recordAt f i) (getD v n 0) set)
+          ∙ ap (λ (t : Bytes). recordLine n t (getD v n 0) set)
+          (take-take 3 (textLength (drop i f)) (drop i f) (here-three f i here (G .fine) (G .all)))
 
   pub going-on : (j : ℕ) → j ≡ i + textLength (drop i f) → (new' : Bytes) (q : ℕ) → Put p (lineAt f i n v g) new new' q → q ≤ p + 48
       → Going f v g start old new' (j + 2) (n + 1) q

@@ -48,7 +48,8 @@ module _ {a r : ℕ} {x old new : Bytes} (b : Answer) (text : Bytes) where
 -- ---- any file
 
 -- a check of f with buffers v₀ and g₀ answered a, and left v and g
-module _ (tables : Tables) (t : ℕ) (f v₀ g₀ : Bytes) (a : Answer) (v g : Bytes) (is : record { answer = a; verdicts = v; findings = g } ≡ check tables t f v₀ g₀) where
+module _ (tables : Tables) (t : ℕ) (f v₀ g₀ : Bytes) (a : Answer) (v g : Bytes)
+    (is : record { answer = a; verdicts = v; findings = g } ≡ check tables t f v₀ g₀) where
   is-answer : a ≡ check tables t f v₀ g₀ .answer
   is-answer = ap (λ (o : Outcome). o .answer) is
 
@@ -84,14 +85,16 @@ module _ (tables : Tables) (t : ℕ) (f v₀ g₀ : Bytes) (a : Answer) (v g : B
       let (each-v, each-g) = checks .one-each tables t f v₀ g₀ k m n (sym is-answer ∙ e) in
       let all = sym (records-counted f k m n right) in
       rw (left-v, left-g, e)
-      (listed-back (recordsIn (lines f)) (fileVerdicts tables t (content f)) (fileFindings tables t (content f)) _ _ (each-v ∙ all) (each-g ∙ all) (small-file tables t (content f)))
+      (listed-back (recordsIn (lines f)) (fileVerdicts tables t (content f)) (fileFindings tables t (content f)) _ _
+      (each-v ∙ all) (each-g ∙ all) (small-file tables t (content f)))
 
   pub is-listed : length v₀ ≡ mostRecords → length g₀ ≡ 8 * mostRecords
       → answerLine a ++ listedBehind a (linesFrom v g 0 (recordsIn (lines f))) ≡ listed tables t f
   unfolding listed
   is-listed in-v in-g = go a refl ∙ rw (← in-v, ← in-g, ← told)
     where
-      go : (b : Answer) → a ≡ b → answerLine b ++ listedBehind b (linesFrom v g 0 (recordsIn (lines f))) ≡ answerLine b ++ listedBehind b text
+      go : (b : Answer) → a ≡ b
+          → answerLine b ++ listedBehind b (linesFrom v g 0 (recordsIn (lines f))) ≡ answerLine b ++ listedBehind b text
       go (refused n i) q = refl
       go (passed k m n) q = ap (λ (x : Bytes). answerLine (passed k m n) ++ x) (same-lines k m n q)
 

@@ -50,6 +50,7 @@ fn zeros(digits: &[u8]) -> usize
     i
 }
 
+// The digits behind those zeros. (The function that holds the ten of a number takes no part of them.)
 fn put_digits(digits: &[u8], end: u8, out: &mut [u8], at: usize) -> usize
     requires { ⌜ at + length (now digits) < length (now out) ⌝ }
     ensures { λ r. ⌜ Put at (withoutZeros (now (digits .entry)) ++ end ∷ []) (now (out .entry)) (now (out .exit)) r ⌝ }
@@ -78,10 +79,12 @@ fn put_lowest(set: u64, out: &mut [u8], at: usize) -> usize
     ensures { λ r. ⌜ Put at (lowestWord (places 64 set) ++ 10 ∷ []) (now (out .entry)) (now (out .exit)) r ⌝ }
     ensures { λ r. ⌜ r ≤ at + 11 ⌝ }
 {
-    if sets::count(set) == 0 {
+    let count = sets::count(set);
+    let lowest = sets::lowest(set);
+    if count == 0 {
         return put_word(b"-", LF, out, at);
     }
-    put_figure(sets::lowest(set) as u64, LF, out, at)
+    put_figure(lowest as u64, LF, out, at)
 }
 
 // The line of the record with that number, those three bytes of type, that verdict and that set of findings.
@@ -251,7 +254,8 @@ fn put_outcome(
     first
 }
 
-// The listing of a file that is not too long, by a check with the program's tables and tolerance.
+// The listing of a file that is not too long, by a check with the program's tables and tolerance. The buffers are lent as arrays, so that
+// their lengths are known by their types: no file has too many records for them.
 fn put_checked(
     file: &[u8],
     verdicts: &mut [u8; MOST_RECORDS],
@@ -273,10 +277,10 @@ fn put_checked(
 }
 
 // The most bytes that are read, and what holds the listing of as many: a first line of at most 64 bytes, and ten for each that was read,
-// since a record has five at least and its line 48 at most.
+// since a record and its CR LF are five bytes at least, and its line is 48 at most.
 pub const MOST_INPUT: usize = 65536;
 
-pub const LISTING: usize = 655424;
+pub const LISTING: usize = 64 + 10 * MOST_INPUT;
 
 // The listing of an input, at the front of out; how many bytes it has.
 pub fn list(input: &[u8], out: &mut [u8; LISTING]) -> usize

@@ -1,5 +1,5 @@
 -- `lister::put_line` meets its contract: the record's type, its verdict and its set are read where they stand. Assumes nothing.
-use mathlib.Core.Path.{refl, _∙_}
+use mathlib.Core.Path.{refl}
 use Prim.Native.Nat.{_+_, _*_}
 use Rattle.lister.proofs.Walk.{line-put}
 use borrow.Author.Needs.{needs}
