@@ -45,6 +45,23 @@ find_kit() {
   needs "$kit_tools"/bin/{clang,ld.lld,qemu-x86_64} "$kit_lib/ld-linux-x86-64.so.2"
 }
 
+# start_of PROGRAM: `start` is the command that starts a program for x86-64
+start_of() {
+  if is_x86_64; then
+    start=("$1")
+  else
+    find_kit
+    start=("$kit_tools/bin/qemu-x86_64" "$kit_lib/ld-linux-x86-64.so.2" --library-path "$kit_lib" "$1")
+  fi
+}
+
+# program_of CRATE: builds the program that a crate is; `start` is the command that starts it
+program_of() {
+  needs rt
+  build "the program $1" rt check "$1"
+  start_of "$PWD/target/bin/$1"
+}
+
 # link_program OUT FLAG.. -- FILE..: compiles each FILE that ends in .c with the flags and links all FILEs to the program OUT. `start` is
 # then the command that starts it. CROSS_FLAGS are flags for another machine than x86-64 only.
 link_program() {
@@ -58,7 +75,7 @@ link_program() {
   if is_x86_64; then
     needs gcc
     build "${out##*/}" gcc "${flags[@]}" -o "$out" "$@"
-    start=("$out")
+    start_of "$out"
     return
   fi
   find_kit
@@ -73,7 +90,7 @@ link_program() {
   done
   build "${out##*/}" "$kit_tools/bin/ld.lld" -pie -dynamic-linker "$kit_lib/ld-linux-x86-64.so.2" -o "$out" \
     "$kit_lib"/{Scrt1.o,crti.o,crtbeginS.o} "${objects[@]}" "$kit_lib"/{libc.so.6,libc_nonshared.a,crtendS.o,crtn.o}
-  start=("$kit_tools/bin/qemu-x86_64" "$kit_lib/ld-linux-x86-64.so.2" --library-path "$kit_lib" "$out")
+  start_of "$out"
 }
 
 # forget_emulator: the emulator takes no setting but the words of `start`
