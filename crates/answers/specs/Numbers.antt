@@ -2,6 +2,7 @@
 use Prim.Native.Nat.{ℕ, _+_, _*_, _%_, _^_}
 use mathlib.Core.Bool.{Bool, true, false}
 use Rattle.format.specs.Structure.{Answer as FormatAnswer, refused, passed, mostRecords}
+use Rattle.answers.specs.declared.Told.{Told}
 use Rattle.answers.specs.declared.Answer.{Answer}
 use Rattle.answers.specs.declared.Answer.the-variants.{Tolerance, Table, Long, Many, Line, Shape, Place, Number, Total, Version, Short, Passed}
 
@@ -18,6 +19,11 @@ answerOf (Total i) = refused 9 i
 answerOf Version = refused 10 0
 answerOf Short = refused 11 0
 answerOf (Passed g t r) = passed g t r
+
+-- an answer in numbers
+abbrev pub toldOf : FormatAnswer → Told
+toldOf (refused n i) = record { passes = false; refusal = n; place = i; groups = 0; transactions = 0; records = 0 }
+toldOf (passed g t r) = record { passes = true; refusal = 0; place = 0; groups = g; transactions = t; records = r }
 
 abbrev pub isPassed : FormatAnswer → Bool
 isPassed (refused n i) = false

@@ -3,7 +3,7 @@
 ghost use mathlib.Core.Path.{_≡_};
 ghost use Prim.Native.Nat.{_≤_};
 ghost use Rattle.format.specs.Structure.{refused};
-ghost use Rattle.answers.specs.Numbers.{answerOf, isPassed, packedOf};
+ghost use Rattle.answers.specs.Numbers.{answerOf, toldOf, isPassed, packedOf};
 
 pub enum Answer {
     // 1, 2: the tolerance; which of the three tables.
@@ -28,28 +28,38 @@ pub enum Answer {
 // The most records that a file may have, and the place of the refusal of more.
 pub const MOST_RECORDS: usize = 131072;
 
-// A refusal by its number and place.
-fn refusal(number: u64, place: usize) -> u64
+// An answer in numbers; those that it has not are 0.
+pub struct Told {
+    pub passes: bool,
+    // The refusal's number and its place.
+    pub refusal: u64,
+    pub place: u64,
+    // What passed.
+    pub groups: u64,
+    pub transactions: u64,
+    pub records: u64,
+}
+
+fn refusal(number: u64, place: usize) -> Told
     requires { ⌜ number ≤ 11 ⌝ }
-    ensures { λ r. ⌜ r ≡ packedOf (refused number place) ⌝ }
+    ensures { λ r. ⌜ r ≡ toldOf (refused number place) ⌝ }
+    ensures { λ r. ⌜ r .refusal ≤ 11 ⌝ }
 {
-    number * 4294967296 + place as u64 % 4294967296
+    Told {
+        passes: false,
+        refusal: number,
+        place: place as u64,
+        groups: 0,
+        transactions: 0,
+        records: 0,
+    }
 }
 
 impl Answer {
-    // Whether it is no refusal.
-    pub fn passes(self) -> bool
-        ensures { λ r. ⌜ r ≡ isPassed (answerOf self) ⌝ }
-    {
-        match self {
-            Answer::Passed(_, _, _) => true,
-            _ => false,
-        }
-    }
-
-    // In one number.
-    pub fn packed(self) -> u64
-        ensures { λ r. ⌜ r ≡ packedOf (answerOf self) ⌝ }
+    // In numbers. Nowhere else in code is a refusal given its number.
+    pub fn told(self) -> Told
+        ensures { λ r. ⌜ r ≡ toldOf (answerOf self) ⌝ }
+        ensures { λ r. ⌜ r .refusal ≤ 11 ⌝ }
     {
         match self {
             Answer::Tolerance => refusal(1, 0),
@@ -63,7 +73,33 @@ impl Answer {
             Answer::Total(i) => refusal(9, i),
             Answer::Version => refusal(10, 0),
             Answer::Short => refusal(11, 0),
-            Answer::Passed(_, _, records) => records,
+            Answer::Passed(groups, transactions, records) => Told {
+                passes: true,
+                refusal: 0,
+                place: 0,
+                groups: groups,
+                transactions: transactions,
+                records: records,
+            },
         }
+    }
+
+    // Whether it is no refusal.
+    pub fn passes(self) -> bool
+        ensures { λ r. ⌜ r ≡ isPassed (answerOf self) ⌝ }
+    {
+        let t = self.told();
+        t.passes
+    }
+
+    // In one number.
+    pub fn packed(self) -> u64
+        ensures { λ r. ⌜ r ≡ packedOf (answerOf self) ⌝ }
+    {
+        let t = self.told();
+        if t.passes {
+            return t.records;
+        }
+        t.refusal * 4294967296 + t.place % 4294967296
     }
 }

@@ -34,13 +34,12 @@ const CATEGORY: usize = 3;
 fn in_room(answer: Answer, verdicts: usize, findings: usize) -> Answer
     ensures { λ r. ⌜ answerOf r ≡ inRoom (enough verdicts findings) (answerOf answer) ⌝ }
 {
-    let Answer::Passed(_, _, records) = answer else {
-        return answer;
-    };
-    if (records <= verdicts as u64) & (records <= findings as u64 / 8) {
-        return answer;
+    let told = answer.told();
+    let records = told.records;
+    if told.passes & !((records <= verdicts as u64) & (records <= findings as u64 / 8)) {
+        return Answer::Short;
     }
-    Answer::Short
+    answer
 }
 
 // 1 to 11, for buffers of so many bytes.

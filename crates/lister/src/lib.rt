@@ -1,7 +1,6 @@
 // The listing of a file, written into a lent buffer: one line for the answer of the check, then one for each record of a file that passes.
 // Each function writes from a place on and answers the place behind what it wrote.
 use answers::Answer;
-use answers::MOST_RECORDS;
 ghost use mathlib.Core.Path.{_≡_};
 ghost use mathlib.Core.Bool.{true};
 ghost use mathlib.Core.List.{[], _∷_, _++_};
@@ -14,7 +13,7 @@ ghost use Rattle.rules.specs.Findings.{places};
 ghost use Rattle.rules.specs.Values.{largestTolerance};
 ghost use Rattle.rules.specs.Listing.{withoutZeros, figure, lowestWord, recordLine, answerLine, listedBehind, listed, listingTables, listing};
 ghost use Rattle.answers.specs.Numbers.{answerOf, isPassed};
-ghost use Rattle.lister.specs.Put.{Put, answerIn};
+ghost use Rattle.lister.specs.Put.{Put};
 ghost use Rattle.lister.specs.Read.{Listable, lineAt, linesFrom};
 
 const SPACE: u8 = 32;
@@ -102,49 +101,6 @@ fn put_record(number: u64, kind: &[u8], verdict: u64, set: u64, out: &mut [u8], 
 
 // ---- the line of the answer
 
-// An answer in numbers: how many groups, transactions and records passed, or a refusal's number and place.
-struct Told {
-    passes: bool,
-    first: u64,
-    second: u64,
-    third: u64,
-}
-
-fn refusal(number: u64, place: usize) -> Told
-    ensures { λ r. ⌜ answerIn r ≡ refused number place ⌝ }
-{
-    Told {
-        passes: false,
-        first: number,
-        second: place as u64,
-        third: 0,
-    }
-}
-
-fn numbers_of(a: Answer) -> Told
-    ensures { λ r. ⌜ answerIn r ≡ answerOf a ⌝ }
-{
-    match a {
-        Answer::Tolerance => refusal(1, 0),
-        Answer::Table(i) => refusal(2, i),
-        Answer::Long => refusal(3, 0),
-        Answer::Line(i) => refusal(4, i),
-        Answer::Many => refusal(5, MOST_RECORDS),
-        Answer::Shape(i) => refusal(6, i),
-        Answer::Place(i) => refusal(7, i),
-        Answer::Number(i) => refusal(8, i),
-        Answer::Total(i) => refusal(9, i),
-        Answer::Version => refusal(10, 0),
-        Answer::Short => refusal(11, 0),
-        Answer::Passed(g, t, r) => Told {
-            passes: true,
-            first: g,
-            second: t,
-            third: r,
-        },
-    }
-}
-
 fn put_refused(number: u64, place: u64, out: &mut [u8]) -> usize
     requires { ⌜ 64 ≤ length (now out) ⌝ }
     ensures { λ r. ⌜ Put 0 (answerLine (refused number place)) (now (out .entry)) (now (out .exit)) r ⌝ }
@@ -174,11 +130,11 @@ fn put_answer(a: Answer, out: &mut [u8]) -> usize
     ensures { λ r. ⌜ Put 0 (answerLine (answerOf a)) (now (out .entry)) (now (out .exit)) r ⌝ }
     ensures { λ r. ⌜ r ≤ 64 ⌝ }
 {
-    let told = numbers_of(a);
+    let told = a.told();
     if told.passes {
-        put_passed(told.first, told.second, told.third, out)
+        put_passed(told.groups, told.transactions, told.records, out)
     } else {
-        put_refused(told.first, told.second, out)
+        put_refused(told.refusal, told.place, out)
     }
 }
 

@@ -1,12 +1,10 @@
 // The calls below the finished library that the comparison with the independent program reaches.
-use answers::Answer;
 ghost use mathlib.Core.Path.{_≡_};
 ghost use lib.ListN.{length};
 ghost use Rattle.format.specs.Cwr22.{cwr22};
 ghost use Rattle.format.specs.Structure.{structure};
-ghost use Rattle.answers.specs.Numbers.{packedOf};
+ghost use Rattle.answers.specs.Numbers.{toldOf, packedOf};
 ghost use Rattle.numbering.specs.Outcome.{numberAnswer, numberBuffer};
-ghost use Rattle.probe.specs.Counts.{groupsOf, transactionsOf};
 
 // Refusals 3 to 10: number and place in one number, or the number of records.
 #[no_mangle]
@@ -20,23 +18,21 @@ pub extern "C" fn probe_structure(file: &[u8]) -> u64
 // The number of groups, 0 where the file was refused.
 #[no_mangle]
 pub extern "C" fn probe_groups(file: &[u8]) -> u64
-    ensures { λ r. ⌜ r ≡ groupsOf (structure cwr22 (now (file .entry))) ⌝ }
+    ensures { λ r. ⌜ r ≡ toldOf (structure cwr22 (now (file .entry))) .groups ⌝ }
 {
-    let Answer::Passed(groups, _, _) = structure::check(file) else {
-        return 0;
-    };
-    groups
+    let answer = structure::check(file);
+    let told = answer.told();
+    told.groups
 }
 
 // The number of transactions, 0 where the file was refused.
 #[no_mangle]
 pub extern "C" fn probe_transactions(file: &[u8]) -> u64
-    ensures { λ r. ⌜ r ≡ transactionsOf (structure cwr22 (now (file .entry))) ⌝ }
+    ensures { λ r. ⌜ r ≡ toldOf (structure cwr22 (now (file .entry))) .transactions ⌝ }
 {
-    let Answer::Passed(_, transactions, _) = structure::check(file) else {
-        return 0;
-    };
-    transactions
+    let answer = structure::check(file);
+    let told = answer.told();
+    told.transactions
 }
 
 // Numbering: the answer in one number, and the numbered file in out.

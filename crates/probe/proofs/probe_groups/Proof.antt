@@ -1,22 +1,19 @@
--- `probe::probe_groups` meets its contract: nothing but a file that passed has groups.
-use mathlib.Core.Path.{refl}
+-- `probe::probe_groups` meets its contract. Assumes nothing.
+use mathlib.Core.Path.{ap, _∙_}
 use borrow.Author.Needs.{needs}
-use Rattle.probe.specs.Counts.{groupsOf}
-use Rattle.probe.proofs.Laws.{of-refused, of-passed}
+use Rattle.answers.specs.declared.Told.{Told}
+use Rattle.answers.specs.Numbers.{toldOf}
 use Rattle.probe.proofs.probe_groups.Statement.{statement}
 use Rattle.probe.proofs.probe_groups.Tie as tie
 
 check-requires : tie.Need-check-requires
 check-requires c κs = search needs
 
-enum-known-groups : tie.Need-enum-known-groups
-enum-known-groups c = search needs
+told-requires : tie.Need-told-requires
+told-requires c κs = search needs
 
 returns : tie.Need-returns
-returns c = of-refused groupsOf (λ n i. refl) (c .before .check .result) _ (c .match .keys2) (c .before .check .ensures)
-
-returns-2 : tie.Need-returns-2
-returns-2 c = of-passed groupsOf _ _ _ _ _ (c .before .groups .given .1) (c .before .before .before .check .ensures)
+returns c = ap (λ (t : Told). t .groups) (c .told .ensures .0 ∙ ap toldOf (c .before .check .ensures))
 
 pub probe-groups-spec : {M : Type 1} → statement M
-probe-groups-spec = tie.close (tie.spec check-requires enum-known-groups returns returns-2)
+probe-groups-spec = tie.close (tie.spec check-requires told-requires returns)

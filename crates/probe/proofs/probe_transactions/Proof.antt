@@ -1,23 +1,19 @@
--- `probe::probe_transactions` meets its contract: nothing but a file that passed has transactions.
-use mathlib.Core.Path.{refl}
+-- `probe::probe_transactions` meets its contract. Assumes nothing.
+use mathlib.Core.Path.{ap, _∙_}
 use borrow.Author.Needs.{needs}
-use Rattle.probe.specs.Counts.{transactionsOf}
-use Rattle.probe.proofs.Laws.{of-refused, of-passed}
+use Rattle.answers.specs.declared.Told.{Told}
+use Rattle.answers.specs.Numbers.{toldOf}
 use Rattle.probe.proofs.probe_transactions.Statement.{statement}
 use Rattle.probe.proofs.probe_transactions.Tie as tie
 
 check-requires : tie.Need-check-requires
 check-requires c κs = search needs
 
-enum-known-transactions : tie.Need-enum-known-transactions
-enum-known-transactions c = search needs
+told-requires : tie.Need-told-requires
+told-requires c κs = search needs
 
 returns : tie.Need-returns
-returns c = of-refused transactionsOf (λ n i. refl) (c .before .check .result) _ (c .match .keys2) (c .before .check .ensures)
-
-returns-2 : tie.Need-returns-2
-returns-2 c = of-passed transactionsOf _ _ _ _ _ (c .before .transactions .given .1) (c .before .before .before .check .ensures)
+returns c = ap (λ (t : Told). t .transactions) (c .told .ensures .0 ∙ ap toldOf (c .before .check .ensures))
 
 pub probe-transactions-spec : {M : Type 1} → statement M
-probe-transactions-spec =
-    tie.close (tie.spec check-requires enum-known-transactions returns returns-2)
+probe-transactions-spec = tie.close (tie.spec check-requires told-requires returns)

@@ -1,149 +1,26 @@
--- `answers::Answer::packed` meets its contract: a case with a place is known by what the `match` was told of it.
+-- `answers::Answer::packed` meets its contract. Assumes nothing.
+use native.Mathlib.Omega.{arith}
+use mathlib.Core.Path.{sym, ap}
 use borrow.Author.Needs.{needs}
+use Rattle.answers.specs.Numbers.{answerOf, packedOf}
+use Rattle.answers.proofs.Parts.{told-passed, told-refused}
 use Rattle.answers.proofs.Answer.packed.Statement.{statement}
 use Rattle.answers.proofs.Answer.packed.Tie as tie
 
-enum-told : tie.Need-enum-told
-enum-told c = search needs
-
-refusal-requires : tie.Need-refusal-requires
-refusal-requires c κs = search needs
-
-enum-known-self : tie.Need-enum-known-self
-enum-known-self c = search needs
-
-refusal-requires-2 : tie.Need-refusal-requires-2
-refusal-requires-2 c κs = search needs
-
-enum-told-2 : tie.Need-enum-told-2
-enum-told-2 c = search needs
-
-refusal-requires-3 : tie.Need-refusal-requires-3
-refusal-requires-3 c κs = search needs
-
-enum-known-self-2 : tie.Need-enum-known-self-2
-enum-known-self-2 c = search needs
-
-refusal-requires-4 : tie.Need-refusal-requires-4
-refusal-requires-4 c κs = search needs
-
-enum-told-3 : tie.Need-enum-told-3
-enum-told-3 c = search needs
-
-refusal-requires-5 : tie.Need-refusal-requires-5
-refusal-requires-5 c κs = search needs
-
-enum-known-self-3 : tie.Need-enum-known-self-3
-enum-known-self-3 c = search needs
-
-refusal-requires-6 : tie.Need-refusal-requires-6
-refusal-requires-6 c κs = search needs
-
-enum-known-self-4 : tie.Need-enum-known-self-4
-enum-known-self-4 c = search needs
-
-refusal-requires-7 : tie.Need-refusal-requires-7
-refusal-requires-7 c κs = search needs
-
-enum-known-self-5 : tie.Need-enum-known-self-5
-enum-known-self-5 c = search needs
-
-refusal-requires-8 : tie.Need-refusal-requires-8
-refusal-requires-8 c κs = search needs
-
-enum-known-self-6 : tie.Need-enum-known-self-6
-enum-known-self-6 c = search needs
-
-refusal-requires-9 : tie.Need-refusal-requires-9
-refusal-requires-9 c κs = search needs
-
-enum-told-4 : tie.Need-enum-told-4
-enum-told-4 c = search needs
-
-refusal-requires-10 : tie.Need-refusal-requires-10
-refusal-requires-10 c κs = search needs
-
-enum-told-5 : tie.Need-enum-told-5
-enum-told-5 c = search needs
-
-refusal-requires-11 : tie.Need-refusal-requires-11
-refusal-requires-11 c κs = search needs
-
-enum-known-self-7 : tie.Need-enum-known-self-7
-enum-known-self-7 c = search needs
+told-requires : tie.Need-told-requires
+told-requires c κs = search needs
 
 returns : tie.Need-returns
-returns c = search needs
+returns c = ap packedOf (sym (told-passed (answerOf (c .before .before .args .self)) (c .before .told .result) (c .before .told .ensures .0) (c .if1 .taken)))
+
+mul-result : tie.Need-mul-result
+mul-result c = omega (arith, c .before .before .told .ensures .1)
+
+add-result : tie.Need-add-result
+add-result c = omega (arith, c .before .before .before .told .ensures .1)
 
 returns-2 : tie.Need-returns-2
-returns-2 c = rw (c .before .before .self .given .1) (c .refusal2 .ensures)
-
-returns-3 : tie.Need-returns-3
-returns-3 c = search needs
-
-returns-4 : tie.Need-returns-4
-returns-4 c = rw (c .before .before .self2 .given .1) (c .refusal4 .ensures)
-
-returns-5 : tie.Need-returns-5
-returns-5 c = search needs
-
-returns-6 : tie.Need-returns-6
-returns-6 c = rw (c .before .before .self3 .given .1) (c .refusal6 .ensures)
-
-returns-7 : tie.Need-returns-7
-returns-7 c = rw (c .before .before .self4 .given .1) (c .refusal7 .ensures)
-
-returns-8 : tie.Need-returns-8
-returns-8 c = rw (c .before .before .self5 .given .1) (c .refusal8 .ensures)
-
-returns-9 : tie.Need-returns-9
-returns-9 c = rw (c .before .before .self6 .given .1) (c .refusal9 .ensures)
-
-returns-10 : tie.Need-returns-10
-returns-10 c = search needs
-
-returns-11 : tie.Need-returns-11
-returns-11 c = search needs
-
-returns-12 : tie.Need-returns-12
-returns-12 c = search needs
+returns-2 c = ap packedOf (sym (told-refused (answerOf (c .before .before .before .before .args .self)) (c .before .before .before .told .result) (c .before .before .before .told .ensures .0) (c .before .before .if1 .left)))
 
 pub packed-spec : {M : Type 1} → statement M
-packed-spec =
-    tie.close
-    (tie.spec
-    enum-told
-    refusal-requires
-    enum-known-self
-    refusal-requires-2
-    enum-told-2
-    refusal-requires-3
-    enum-known-self-2
-    refusal-requires-4
-    enum-told-3
-    refusal-requires-5
-    enum-known-self-3
-    refusal-requires-6
-    enum-known-self-4
-    refusal-requires-7
-    enum-known-self-5
-    refusal-requires-8
-    enum-known-self-6
-    refusal-requires-9
-    enum-told-4
-    refusal-requires-10
-    enum-told-5
-    refusal-requires-11
-    enum-known-self-7
-    returns
-    returns-2
-    returns-3
-    returns-4
-    returns-5
-    returns-6
-    returns-7
-    returns-8
-    returns-9
-    returns-10
-    returns-11
-    returns-12)
+packed-spec = tie.close (tie.spec told-requires returns mul-result add-result returns-2)
