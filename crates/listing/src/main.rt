@@ -9,19 +9,21 @@ ghost use lib.ListN.{length};
 ghost use Rattle.io.specs.Counts.{Counts};
 ghost use Rattle.rules.specs.Listing.{mostInput};
 
+// Room for that byte too.
 fn buffer() -> [u8; MOST_INPUT + 1]
     ensures { λ r. ⌜ length r ≡ mostInput + 1 ⌝ }
 {
     [0; MOST_INPUT + 1]
 }
 
-// Where writing fails there is nothing more to do.
+// Prints the first n bytes. Where writing fails there is nothing more to do.
 fn print(text: &[u8], n: usize)
     requires { ⌜ Counts n (now text) ⌝ }
 {
     io::write_all(STDOUT_FILENO, &text[..n]);
 }
 
+// Prints the listing of the first n bytes. (The function that holds the buffers takes no part of them.)
 fn print_listing(input: &[u8], n: usize, out: &mut [u8; LISTING])
     requires { ⌜ Counts n (now input) ⌝ }
 {
