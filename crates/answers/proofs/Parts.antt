@@ -1,5 +1,5 @@
 -- An answer that is told in numbers is one of the two. Assumes nothing.
-use mathlib.Core.Path.{_≡_, refl, sym, ap, _∙_, subst}
+use mathlib.Core.Path.{_≡_, refl, sym, subst}
 use mathlib.Core.Bool.{true, false, false≢true}
 use Rattle.format.specs.Structure.{Answer, refused, passed}
 use Rattle.answers.specs.declared.Told.{Told}

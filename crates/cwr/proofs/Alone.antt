@@ -1,5 +1,5 @@
 -- One outcome alone fits the promise of each call: of the answers nothing is lost when they are read as number and place. Assumes nothing.
-use mathlib.Core.Path.{_≡_, sym, ap, _∙_}
+use mathlib.Core.Path.{sym, ap, _∙_}
 use Rattle.rules.specs.Outcome.{Outcome}
 use Rattle.answers.proofs.Alone.{answer-alone}
 use Rattle.cwr.specs.Promises.{OneFits}

@@ -1,25 +1,23 @@
 -- What each ending of a check comes to, and what a file that is not refused is fit for. Assumes nothing.
 use Prim.Native.Nat.{ℕ, _+_, _*_, _/_, _≤_}
 use native.Mathlib.Omega.{arith}
-use mathlib.Core.Path.{_≡_, refl, sym, ap, _∙_, subst}
-use mathlib.Core.Bool.{Bool, true, false, false≢true, _&&_}
+use mathlib.Core.Path.{_≡_, refl, sym, ap, subst}
+use mathlib.Core.Bool.{true, false, false≢true}
 use mathlib.Core.List.{_++_}
 use lib.Dec.{leb}
-use lib.ListN.{length, take, drop}
+use lib.ListN.{length, drop}
 use borrow.Author.Tests.{leb-true, leb-false, le-leb, lt-leb}
 use Rattle.format.specs.Bytes.{Bytes}
 use Rattle.format.specs.Table.{unknown}
 use Rattle.format.specs.Cwr22.{cwr22}
-use Rattle.format.specs.Lines.{lines}
-use Rattle.format.specs.Structure.{Answer, refused, passed, mostBytes, mostRecords, judged, structure}
+use Rattle.format.specs.Structure.{Answer, refused, passed, mostBytes, judged, structure}
 use Rattle.format.specs.Numbering.{recordsIn}
-use Rattle.format.specs.Room.{inRoom, leftIn}
+use Rattle.format.specs.Room.{leftIn}
 use Rattle.format.proofs.Tests.{by-cases}
 use Rattle.format.proofs.Answers.{file-read, answer-judged}
-use Rattle.format.proofs.Demand3.{passes-limits}
 use Rattle.rules.specs.Tables.{Tables}
 use Rattle.rules.specs.Verdicts.{findingBytes, fileFindings, fileVerdicts}
-use Rattle.rules.specs.Outcome.{Outcome, enough, answer, content, check}
+use Rattle.rules.specs.Outcome.{Outcome, answer, content, check}
 use Rattle.rules.specs.Claims.{InOrder}
 use Rattle.rules.proofs.Each.{records-counted, pairs-counted}
 use Rattle.rules.proofs.Outcomes.{passed-order}

@@ -1,5 +1,5 @@
 -- Each refusal of a check, as the code finds it. Assumes nothing.
-use Prim.Native.Nat.{ℕ, _*_, _/_}
+use Prim.Native.Nat.{ℕ, _/_}
 use mathlib.Core.Path.{_≡_, refl, sym, ap, _∙_, subst}
 use mathlib.Core.Bool.{Bool, true, false, not, false≢true, _&&_}
 use lib.Dec.{leb}

@@ -7,7 +7,7 @@ ghost use Rattle.rules.specs.Outcome.{check as Outcome·check, shortTolerance};
 ghost use Rattle.answers.specs.Numbers.{packedOf};
 ghost use Rattle.numbering.specs.Outcome.{numberAnswer, numberBuffer};
 ghost use Rattle.files.specs.Levels.{tablesOf};
-ghost use Rattle.cwr_c.specs.Packed.{Packed, packed};
+ghost use Rattle.cwr_c.specs.Packed.{packed};
 
 // The short form of the check.
 #[no_mangle]

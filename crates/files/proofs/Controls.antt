@@ -3,7 +3,7 @@
 use Prim.Native.Nat.{ℕ, _+_, _-_, _≤_, _<_}
 use native.Mathlib.Omega.{arith}
 use mathlib.Core.Path.{_≡_, refl, sym, ap, _∙_, subst}
-use mathlib.Core.Bool.{Bool, true, false, not, cond, false≢true, _&&_, _||_}
+use mathlib.Core.Bool.{Bool, true, false, not, false≢true, _&&_, _||_}
 use mathlib.Core.List.{List, [], _∷_}
 use lib.Dec.{T, eqb}
 use lib.ListN.{length, take, drop, getD}
@@ -22,7 +22,7 @@ use Rattle.kinds.specs.Rows.{rowFor}
 use Rattle.kinds.proofs.Laws.{row-cases, length-len}
 use Rattle.structure.specs.Cursor.{Here, First}
 use Rattle.structure.proofs.Cursor.{first as record-here}
-use Rattle.works.specs.Walk.{restAt, tailOf}
+use Rattle.works.specs.Walk.{tailOf}
 
 -- ---- one type a class
 
@@ -87,9 +87,6 @@ module _ {k : Class} {n b : ℕ} (kind : Control k n b) where
     pub lent : (e : ℕ) → e ≡ i + n → take (e - i) (drop i f) ≡ r
     lent e q = let w : e - i ≡ n = omega arith in rw w (rw size at (front .bytes))
 
-    pub long : length r ≡ n
-    long = front .long ∙ size
-
     pub next : (e : ℕ) → e ≡ i + n + 2 → Here f e k rs
     next e q = rw q (subst (λ (d : Class). Here f (i + n + 2) d rs) its (rw size at (front .next)))
 
@@ -135,10 +132,7 @@ pub follows : (c : Class) → is trl c ≡ false → (rs : List Bytes) → Along
 follows c e [] a = absurd (subst T e a)
 follows c e (r ∷ rs) a = is-true (mayFollow c (cls cwr22 r)) (a .0)
 
--- GRH behind HDR, a header behind GRH, GRT behind a transaction, TRL behind the last group
-pub grh-behind : (c : Class) → mayFollow hdr c ≡ true → c ≡ grh
-grh-behind c q = sym (is→eq grh c (is-T (is grh c) q))
-
+-- a header behind GRH, GRT behind a transaction, TRL behind the last group
 pub head-behind : (c : Class) → mayFollow grh c ≡ true → c ≡ head
 head-behind c q = sym (is→eq head c (is-T (is head c) q))
 

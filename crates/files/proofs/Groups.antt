@@ -9,11 +9,11 @@ use lib.ListN.{length, take, drop, getD, length-append}
 use borrow.Rule.Slice.PartMut.{putMid}
 use Rattle.format.specs.Bytes.{Bytes}
 use Rattle.format.specs.Doc.{Group, Transaction}
-use Rattle.format.specs.Table.{Class, hdr, grh, head, grt, trl}
+use Rattle.format.specs.Table.{hdr, grh, head, grt, trl}
 use Rattle.format.specs.Cwr22.{cwr22}
 use Rattle.format.specs.Checks.{is, cls, mayFollow}
 use Rattle.format.specs.Structure.{firstOf}
-use Rattle.format.specs.Tree.{span, after, isGRH, isInside, groupsIn}
+use Rattle.format.specs.Tree.{after, isGRH, isInside, groupsIn}
 use Rattle.format.proofs.Logic.{is-T}
 use Rattle.format.proofs.Tests.{by-cases}
 use Rattle.format.proofs.Tree.{is→eq}
@@ -29,7 +29,7 @@ use Rattle.buffers.proofs.Raised.{raised-over}
 use Rattle.works.specs.Walk.{restAt, tailOf, Room}
 use Rattle.files.specs.declared.Next.{Next}
 use Rattle.files.specs.Levels.{transactionsOf, groupOf, behindGroup, isStrayAmong, Judged}
-use Rattle.files.proofs.Controls.{opening, closing, trailer, ends, lent, long, next, letter, some-record, follows, grh-behind, trl-behind, as-closed, last-record}
+use Rattle.files.proofs.Controls.{opening, closing, trailer, ends, lent, next, letter, some-record, follows, trl-behind, as-closed, last-record}
 use Rattle.files.proofs.Levels.{Going, room-left, going-none, going-room, going-on, going-end}
 
 -- ---- one group

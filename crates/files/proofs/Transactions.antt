@@ -1,13 +1,13 @@
 -- The loop over the transactions of a group. Assumes nothing.
 use Prim.Native.Nat.{ℕ, zero, suc, _+_, _<_}
 use native.Mathlib.Omega.{arith}
-use mathlib.Core.Path.{_≡_, refl, sym, ap, _∙_, subst}
-use mathlib.Core.Bool.{Bool, true, false, cond, false≢true, _||_, or-false, or-assoc}
+use mathlib.Core.Path.{_≡_, refl, sym, ap, _∙_}
+use mathlib.Core.Bool.{Bool, true, false, false≢true, _||_, or-false, or-assoc}
 use mathlib.Core.List.{List, [], _∷_, _++_, append-nil}
 use lib.ListN.{length}
 use Rattle.format.specs.Bytes.{Bytes}
 use Rattle.format.specs.Doc.{Transaction}
-use Rattle.format.specs.Table.{Class, grh, head, detail, grt}
+use Rattle.format.specs.Table.{grh, head, grt}
 use Rattle.format.specs.Cwr22.{rows22, cwr22}
 use Rattle.format.specs.Checks.{is, cls, classAt}
 use Rattle.format.specs.Structure.{firstOf}

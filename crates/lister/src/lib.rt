@@ -1,6 +1,7 @@
 // The listing of a file, written into a lent buffer: one line for the answer of the check, then one for each record of a file that passes.
 // Each function writes from a place on and answers the place behind what it wrote.
 use answers::Answer;
+use answers::MOST_RECORDS;
 ghost use mathlib.Core.Path.{_≡_};
 ghost use mathlib.Core.Bool.{true};
 ghost use mathlib.Core.List.{[], _∷_, _++_};

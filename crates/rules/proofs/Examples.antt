@@ -1,6 +1,6 @@
 -- Worked examples: transactions in which each finding holds at least once, and neighbours in which it does not. All are computed by one
 -- proof. Assumes nothing.
-use Prim.Native.Nat.{ℕ, suc, _-_}
+use Prim.Native.Nat.{ℕ, suc}
 use mathlib.Core.Path.{_≡_, refl}
 use mathlib.Core.Bool.{Bool, cond}
 use mathlib.Core.List.{List, [], _∷_, map}

@@ -2,7 +2,6 @@
 use native.Mathlib.Omega.{arith}
 use mathlib.Core.Path.{refl, ap, _∙_}
 use mathlib.Core.List.{[]}
-use denote.Ref.{now}
 use borrow.Author.Needs.{needs}
 use Rattle.rules.specs.Works.{namedType}
 use Rattle.buffers.proofs.Entries.{kept-v, kept-f}

@@ -1,5 +1,4 @@
 -- `files::judge_transactions` meets its contract. Assumes nothing.
-use denote.Ref.{now}
 use lib.ListN.{length}
 use Rattle.format.specs.Table.{head}
 use Rattle.works.specs.Walk.{restAt}

@@ -1,11 +1,12 @@
 -- `lister::put_answer` meets its contract: by its numbers the answer is one of the two. Assumes nothing.
-use Rattle.lister.specs.Put.{answerIn}
 use borrow.Author.Needs.{needs}
+use Rattle.answers.specs.Numbers.{answerOf}
+use Rattle.answers.proofs.Parts.{told-passed, told-refused}
 use Rattle.lister.proofs.put_answer.Statement.{statement}
 use Rattle.lister.proofs.put_answer.Tie as tie
 
-numbers-of-requires : tie.Need-numbers-of-requires
-numbers-of-requires c κs = search needs
+told-requires : tie.Need-told-requires
+told-requires c κs = search needs
 
 put-passed-requires : tie.Need-put-passed-requires
 put-passed-requires c κs = search needs
@@ -17,21 +18,19 @@ same-length : tie.Need-same-length
 same-length c = search needs
 
 returns : tie.Need-returns
-unfolding answerIn
-returns c = (rw (← c .before .before .before .before .before .numbers-of .ensures, c .before .before .before .before .if1 .taken) (c .before .before .put-passed .ensures .0), search needs)
+returns c = (rw (told-passed (answerOf (c .before .before .before .before .before .before .before .args .a)) (c .before .before .before .before .before .told .result) (c .before .before .before .before .before .told .ensures .0) (c .before .before .before .before .if1 .taken)) (c .before .before .put-passed .ensures .0), search needs)
 
 same-length-2 : tie.Need-same-length-2
 same-length-2 c = search needs
 
 returns-2 : tie.Need-returns-2
-unfolding answerIn
-returns-2 c = (rw (← c .before .before .before .before .before .numbers-of .ensures, c .before .before .before .before .if1 .left) (c .before .before .put-refused .ensures .0), search needs)
+returns-2 c = (rw (told-refused (answerOf (c .before .before .before .before .before .before .before .args .a)) (c .before .before .before .before .before .told .result) (c .before .before .before .before .before .told .ensures .0) (c .before .before .before .before .if1 .left)) (c .before .before .put-refused .ensures .0), search needs)
 
 pub put-answer-spec : {M : Type 1} → statement M
 put-answer-spec =
     tie.close
     (tie.spec
-    numbers-of-requires
+    told-requires
     put-passed-requires
     put-refused-requires
     same-length
