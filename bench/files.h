@@ -1,0 +1,59 @@
+/* The files that are measured: made in memory, always the same ones, each with
+ * the answer, the verdicts and the findings that are right for it. */
+#ifndef FILES_H
+#define FILES_H
+
+#include "../include/cwr.h"
+#include "system.h"
+
+/* The lent tables, in the order of cwr_check. */
+enum { LANGUAGES, SOCIETIES, CATEGORIES, TABLES };
+
+struct codes {
+    const uint8_t *bytes;
+    size_t length;
+};
+
+/* What a record's numbers are written from. */
+enum count { GROUPS, GROUP_TRANSACTIONS, GROUP_RECORDS, TRANSACTIONS, RECORDS, TRANSACTION, DETAIL, COUNTS };
+
+struct file {
+    const char *name;
+    uint8_t *bytes;
+    size_t length;
+    struct codes tables[TABLES];
+
+    /* What is right for it. */
+    uint64_t records, structure, number;
+    uint8_t *verdicts, *findings;
+
+    /* While it is made: the random number, the codes that its records ask for,
+     * the counts, where the transaction began, and what the fields of the next
+     * record are made of. */
+    uint64_t seed;
+    struct codes asked[TABLES];
+    uint64_t counts[COUNTS];
+    size_t transaction_at, transaction_record;
+    const char *transaction_type, *role, *relation, *version;
+    uint64_t chain, publisher, writer, shares[3];
+};
+
+struct maker {
+    const char *name;
+    /* share: it is to be one share-th as long */
+    void (*make)(struct file *f, uint64_t share);
+};
+
+extern const struct maker makers[];
+extern const size_t makers_count;
+
+/* The file that a maker makes; it is lent until forget. */
+void make(struct file *f, const struct maker *maker, uint64_t share);
+void forget(struct file *f);
+
+/* A copy with its numbers wiped out: what numbering is given. */
+uint8_t *unnumbered(const struct file *f);
+
+_Noreturn void stop(const char *name, const char *words);
+
+#endif

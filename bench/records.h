@@ -1,0 +1,27 @@
+/* How one record of a file is made, and what is right for it. */
+#ifndef RECORDS_H
+#define RECORDS_H
+
+#include "files.h"
+
+/* A number below n. */
+uint64_t below(struct file *f, uint64_t n);
+
+bool same(const void *a, const void *b);
+
+/* One record more, with its fields and numbers. The record that it is. */
+uint8_t *add(struct file *f, const char *type);
+
+/* The finding holds on the record with this number. */
+void mark(struct file *f, size_t record, unsigned finding);
+
+/* What follows for the verdicts from the findings that were marked in the transaction. */
+void judge(struct file *f);
+
+/* The length of the record that stands here, without its CR LF. */
+size_t length_at(const uint8_t *record);
+
+/* Fields as others write them: the shares of PR, MR and SR of one among `parts`, all of which together have `whole`. */
+uint64_t part_of(uint64_t whole, uint64_t parts, uint64_t part);
+
+#endif

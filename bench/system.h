@@ -1,0 +1,33 @@
+/* What the benchmark uses of the C library, declared here for 64-bit Linux, so
+ * that it can be compiled for another machine without that machine's headers. */
+#ifndef SYSTEM_H
+#define SYSTEM_H
+
+#include <stdbool.h>
+#include <stddef.h>
+#include <stdint.h>
+
+_Static_assert(sizeof(size_t) == 8 && sizeof(long) == 8, "64 bits");
+
+struct timespec {
+    long seconds;
+    long nanoseconds;
+};
+
+typedef struct _IO_FILE FILE;
+
+void *malloc(size_t length);
+void free(void *bytes);
+void *memcpy(void *restrict to, const void *restrict from, size_t length);
+void *memset(void *bytes, int byte, size_t length);
+int memcmp(const void *a, const void *b, size_t length);
+int strcmp(const char *a, const char *b);
+size_t strlen(const char *words);
+int printf(const char *restrict format, ...);
+FILE *fopen(const char *restrict path, const char *restrict mode);
+size_t fwrite(const void *restrict bytes, size_t size, size_t count, FILE *restrict file);
+int fclose(FILE *file);
+int clock_gettime(int clock, struct timespec *time);
+_Noreturn void exit(int status);
+
+#endif
