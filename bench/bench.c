@@ -87,7 +87,7 @@ static void compare_written(const struct bench *b) {
         stop(f->name, "a finding is wrong");
     compare_untouched(f, b->verdicts, judged, CWR_MOST_RECORDS);
     compare_untouched(f, b->findings, judged * CWR_FINDING_BYTES, FINDINGS_BYTES);
-    if (f->structure == f->records && memcmp(b->out, f->bytes, f->length) != 0)
+    if (memcmp(b->out, f->bytes, f->right_length) != 0)
         stop(f->name, "the numbered file is wrong");
 }
 

@@ -52,6 +52,7 @@ static void open_group(struct file *f, const char *type) {
 static void close_file(struct file *f) {
     add(f, "TRL");
     f->records = f->structure = f->number = f->counts[RECORDS];
+    f->right_length = f->length;
 }
 
 /* ---- a work as a catalogue has it */
@@ -64,6 +65,13 @@ static void share_out(struct file *f, uint64_t pr, uint64_t others, uint64_t par
     f->shares[1] = f->shares[2] = part_of(others, parts, part);
 }
 
+/* A record of someone with that role, who owns these shares. */
+static void add_owner(struct file *f, const char *type, const char *role, uint64_t pr, uint64_t others) {
+    f->role = role;
+    share_out(f, pr, others, 1, 0);
+    add(f, type);
+}
+
 /* A publisher of the submitter, now and then with an administrator, who owns nothing. */
 static void add_chain(struct file *f) {
     f->publisher = 1 + below(f, 400);
@@ -74,9 +82,7 @@ static void add_chain(struct file *f) {
     add(f, "SPT");
     if (below(f, 8) != 0)
         return;
-    share_out(f, 0, 0, 1, 0);
-    f->role = "AM";
-    add(f, "SPU");
+    add_owner(f, "SPU", "AM", 0, 0);
     add(f, "SPT");
 }
 
@@ -131,11 +137,16 @@ static void add_one_in(struct file *f, const char *type, uint64_t n) {
     add_some(f, type, below(f, n) == 0);
 }
 
+/* Whether the header's category is SER: it then needs instruments. */
+static bool is_serious(const uint8_t *header) {
+    return same(header + 126, "SER");
+}
+
 /* A work with its publishers, writers, titles, performers, recordings and origin: less than 8,000 bytes. */
 static void add_work(struct file *f) {
     f->version = below(f, 8) == 0 ? "MOD" : "ORI";
     f->relation = below(f, 6) == 0 ? "MUS" : "MTX";
-    bool serious = same(add(f, f->transaction_type) + 126, "SER");
+    bool serious = is_serious(add(f, f->transaction_type));
     add_publishers(f);
     add_writers(f);
     add_some(f, "ALT", below(f, 3));
@@ -184,7 +195,7 @@ static const struct flaw {
 
 /* The header is judged otherwise where the category is SER. */
 static bool may_have_flaws(const struct file *f) {
-    return !same(f->bytes + f->transaction_at + 126, "SER");
+    return !is_serious(f->bytes + f->transaction_at);
 }
 
 static void put_flaw(struct file *f, const struct flaw *flaw) {
@@ -231,15 +242,181 @@ static void make_works(struct file *f, uint64_t share, uint64_t flawed) {
 
 static void make_right(struct file *f, uint64_t share) {
     make_works(f, share, 0);
+    for (size_t i = 0; i < f->records * CWR_FINDING_BYTES; i++)
+        if (f->findings[i] != 0)
+            stop(f->name, "a finding was made in it");
 }
 
 static void make_flawed(struct file *f, uint64_t share) {
     make_works(f, share, 30);
 }
 
+/* TRL's count of records is wrong, behind all that is right. */
+static void make_fault(struct file *f, uint64_t share) {
+    make_right(f, share);
+    f->right_length = f->length - 3;
+    f->bytes[f->right_length] ^= 1;
+    f->structure = (9ull << 32) + f->records - 1;
+}
+
+/* The header of an original song, whose publishers are all in one chain. */
+static uint8_t *add_song(struct file *f) {
+    f->version = "ORI";
+    f->relation = "MTX";
+    f->chain = 1;
+    return add(f, f->transaction_type);
+}
+
+/* A song, and a publisher and a writer that own all. */
+static void add_plain_work(struct file *f, uint64_t territories) {
+    add_song(f);
+    add_owner(f, "SPU", "E ", HALF, WHOLE);
+    add_some(f, "SPT", territories);
+    add_owner(f, "SWR", "CA", HALF, 0);
+    add_some(f, "SWT", territories);
+}
+
+/* As many records as a file may have, short ones, in transactions of 22. */
+static void make_short(struct file *f, uint64_t share) {
+    uint64_t most = CWR_MOST_RECORDS / share - 2;
+    lend_usual(f);
+    open_group(f, "NWR");
+    while (f->counts[RECORDS] < most) {
+        uint64_t left = most - f->counts[RECORDS];
+        add_plain_work(f, 4);
+        add_some(f, "ALT", 3);
+        add_some(f, "IND", 2);
+        add_some(f, "XRF", left < 2 * 22 ? left - 16 : 6);
+        judge(f);
+    }
+    add(f, "GRT");
+    close_file(f);
+}
+
+/* As many groups as a file may have: the least that a group has is one transaction of one record. Such a work has no writer. */
+static void make_groups(struct file *f, uint64_t share) {
+    lend_usual(f);
+    while (f->counts[RECORDS] + 4 <= CWR_MOST_RECORDS / share) {
+        open_group(f, f->counts[GROUPS] % 2 == 0 ? "NWR" : "REV");
+        if (is_serious(add_song(f)))
+            mark(f, f->transaction_record, 9);
+        mark(f, f->transaction_record, 4);
+        mark(f, f->transaction_record, 5);
+        judge(f);
+        add(f, "GRT");
+    }
+    close_file(f);
+}
+
+/* A publisher or a writer that owns nothing, with territories, until there are so many details. */
+static void add_parties(struct file *f, const char *party, const char *role, const char *territory, uint64_t details) {
+    while (f->counts[DETAIL] + 3 <= details) {
+        add_owner(f, party, role, 0, 0);
+        add_some(f, territory, 2);
+    }
+}
+
+/* One transaction with as many details as a file may have. */
+static void make_one(struct file *f, uint64_t share) {
+    uint64_t most = CWR_MOST_RECORDS / share - 5;
+    lend_usual(f);
+    open_group(f, "NWR");
+    add_song(f);
+    add_owner(f, "SPU", "E ", HALF, WHOLE);
+    add_parties(f, "SPU", "AM", "SPT", most / 2);
+    add_owner(f, "SWR", "CA", HALF, 0);
+    add_parties(f, "SWR", "C ", "SWT", most / 10 * 8);
+    add_some(f, "ALT", most / 10);
+    add_some(f, "IND", most / 20);
+    add_some(f, "XRF", most - f->counts[DETAIL]);
+    judge(f);
+    add(f, "GRT");
+    close_file(f);
+}
+
+/* ---- tables as large as they may be, and codes that are not in them */
+
+enum { MOST_CODE_BYTES = 3, ASKED = 128, SLOTS = 4096 };
+
+/* The slot that crate lookup looks a code up in: were it another, the file would still be right, and no longer the worst. */
+static size_t slot_of(const uint8_t *code, size_t size) {
+    return ((code[0] * 27u + code[1]) * 27u + code[size - 1]) % SLOTS;
+}
+
+static bool slot_taken(const struct codes *table, const uint8_t *code, size_t size) {
+    for (size_t at = 0; at < table->length; at += size)
+        if (slot_of(table->bytes + at, size) == slot_of(code, size))
+            return true;
+    return false;
+}
+
+/* Some code or other, of the letters, digits and signs of ASCII: among letters and digits alone no two codes of two have the same slot. */
+static void put_some_code(struct file *f, uint8_t *at, size_t size) {
+    for (size_t i = 0; i < size; i++)
+        at[i] = (uint8_t)('!' + below(f, '~' - '!' + 1));
+}
+
+/* A table of as many codes as it may have, all different. */
+static void fill_table(struct file *f, int which, uint8_t *bytes, size_t size) {
+    struct codes *table = &f->tables[which];
+    *table = (struct codes){bytes, 0};
+    while (table->length < CWR_MOST_ENTRIES * size) {
+        uint8_t *at = bytes + table->length;
+        put_some_code(f, at, size);
+        if (!is_in(table, at, size) && !(size == 3 && same(at, "SER")))
+            table->length += size;
+    }
+}
+
+/* Codes that are not in it, and either all or none of which are looked up where another stands. */
+static void fill_asked(struct file *f, int which, uint8_t *bytes, size_t size, bool taken) {
+    struct codes *asked = &f->asked[which];
+    *asked = (struct codes){bytes, 0};
+    while (asked->length < ASKED * size) {
+        uint8_t *at = bytes + asked->length;
+        put_some_code(f, at, size);
+        if (!is_in(&f->tables[which], at, size) && !(size == 3 && same(at, "SER")) && slot_taken(&f->tables[which], at, size) == taken)
+            asked->length += size;
+    }
+}
+
+static void lend_large(struct file *f, bool taken) {
+    static const size_t sizes[TABLES] = {CWR_LANGUAGE_BYTES, CWR_SOCIETY_BYTES, CWR_CATEGORY_BYTES};
+    static uint8_t tables[TABLES][CWR_MOST_ENTRIES * MOST_CODE_BYTES], asked[TABLES][ASKED * MOST_CODE_BYTES];
+    for (int which = 0; which < TABLES; which++) {
+        fill_table(f, which, tables[which], sizes[which]);
+        fill_asked(f, which, asked[which], sizes[which], taken);
+    }
+}
+
+/* Nearly all records are publishers, with three codes each: a work has one that owns all and 18 that own nothing. */
+static void make_publishers(struct file *f, uint64_t share, bool taken) {
+    size_t most = CWR_MOST_BYTES / share - 6000;
+    lend_large(f, taken);
+    open_group(f, "NWR");
+    while (f->length < most) {
+        add_song(f);
+        add_owner(f, "SPU", "E ", HALF, WHOLE);
+        for (int idle = 0; idle < 18; idle++)
+            add_owner(f, "SPU", "AM", 0, 0);
+        add_owner(f, "SWR", "CA", HALF, 0);
+        judge(f);
+    }
+    add(f, "GRT");
+    close_file(f);
+}
+
+static void make_missed(struct file *f, uint64_t share) {
+    make_publishers(f, share, false);
+}
+
+static void make_colliding(struct file *f, uint64_t share) {
+    make_publishers(f, share, true);
+}
+
 const struct maker makers[] = {
-    {"right", make_right},
-    {"flawed", make_flawed},
+    {"right", make_right},       {"flawed", make_flawed},           {"fault at the end", make_fault}, {"131,072 records", make_short},
+    {"43,690 groups", make_groups}, {"one transaction", make_one}, {"codes missed", make_missed},    {"codes colliding", make_colliding},
 };
 const size_t makers_count = sizeof makers / sizeof makers[0];
 

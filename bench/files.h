@@ -23,8 +23,9 @@ struct file {
     size_t length;
     struct codes tables[TABLES];
 
-    /* What is right for it. */
+    /* What is right for it: the answers, and how far numbering leaves it as it is. */
     uint64_t records, structure, number;
+    size_t right_length;
     uint8_t *verdicts, *findings;
 
     /* While it is made: the random number, the codes that its records ask for,

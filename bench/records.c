@@ -143,7 +143,7 @@ static bool is_blank(const uint8_t *bytes, size_t length) {
     return true;
 }
 
-static bool is_in(const struct codes *table, const uint8_t *code, size_t size) {
+bool is_in(const struct codes *table, const uint8_t *code, size_t size) {
     for (size_t at = 0; at < table->length; at += size)
         if (memcmp(table->bytes + at, code, size) == 0)
             return true;

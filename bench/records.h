@@ -7,7 +7,10 @@
 /* A number below n. */
 uint64_t below(struct file *f, uint64_t n);
 
+/* Whether the first three bytes are the same. */
 bool same(const void *a, const void *b);
+
+bool is_in(const struct codes *table, const uint8_t *code, size_t size);
 
 /* One record more, with its fields and numbers. The record that it is. */
 uint8_t *add(struct file *f, const char *type);
@@ -21,7 +24,7 @@ void judge(struct file *f);
 /* The length of the record that stands here, without its CR LF. */
 size_t length_at(const uint8_t *record);
 
-/* Fields as others write them: the shares of PR, MR and SR of one among `parts`, all of which together have `whole`. */
+/* The share of one among `parts`, who together have the whole. */
 uint64_t part_of(uint64_t whole, uint64_t parts, uint64_t part);
 
 #endif
