@@ -4,10 +4,12 @@
  *   bench              every file
  *   bench only NAME    one of them
  *   bench small        each file a hundredth as long, once, to see that all works
- *   bench once         each work once on the file "right", untimed
+ *   bench once WORK    one work once on the file "right", untimed, and its length;
+ *                      read, copy, structure, check, number, or nothing
  *   bench write PATH   writes the file "right" there
  *
- * Status 1 where an answer is not the right one: a time would say nothing then. */
+ * Status 1 where an answer is not the right one, since a time would say nothing
+ * then, and 2 where nothing can be done. */
 #include "files.h"
 #include "read.h"
 
@@ -59,6 +61,11 @@ static uint64_t (*const works[WORKS])(struct bench *b) = {read_plainly, copy, st
 
 /* ---- whether they did what is right */
 
+_Noreturn static void wrong(const struct file *f, const char *words) {
+    printf("bench: %s: %s\n", f->name, words);
+    exit(1);
+}
+
 static uint64_t right_answer(const struct file *f, enum work work) {
     const uint64_t answers[WORKS] = {0, 0, f->structure, f->structure, f->number};
     return answers[work];
@@ -68,13 +75,13 @@ static void compare_answer(const struct file *f, enum work work, uint64_t answer
     static const char *const words[WORKS] = {"", "", "the structural check's answer is wrong", "the check's answer is wrong",
                                              "numbering's answer is wrong"};
     if (answer != right_answer(f, work))
-        stop(f->name, words[work]);
+        wrong(f, words[work]);
 }
 
 static void compare_untouched(const struct file *f, const uint8_t *bytes, size_t from, size_t to) {
     for (size_t i = from; i < to; i++)
         if (bytes[i] != UNTOUCHED)
-            stop(f->name, "the check wrote where it may not");
+            wrong(f, "the check wrote where it may not");
 }
 
 /* What was written, by the check and by numbering. */
@@ -82,13 +89,13 @@ static void compare_written(const struct bench *b) {
     const struct file *f = &b->file;
     size_t judged = f->structure == f->records ? f->records : 0;
     if (memcmp(b->verdicts, f->verdicts, judged) != 0)
-        stop(f->name, "a verdict is wrong");
+        wrong(f, "a verdict is wrong");
     if (memcmp(b->findings, f->findings, judged * CWR_FINDING_BYTES) != 0)
-        stop(f->name, "a finding is wrong");
+        wrong(f, "a finding is wrong");
     compare_untouched(f, b->verdicts, judged, CWR_MOST_RECORDS);
     compare_untouched(f, b->findings, judged * CWR_FINDING_BYTES, FINDINGS_BYTES);
     if (memcmp(b->out, f->bytes, f->right_length) != 0)
-        stop(f->name, "the numbered file is wrong");
+        wrong(f, "the numbered file is wrong");
 }
 
 /* ---- the measures */
@@ -207,12 +214,23 @@ static void measure_only(const char *name, const struct pace *pace) {
     measure(maker, 1, pace);
 }
 
-static void do_once(void) {
+/* WORKS where the name is that of no work. */
+static enum work work_named(const char *name) {
+    static const char *const names[WORKS] = {"read", "copy", "structure", "check", "number"};
+    enum work work = 0;
+    while (work < WORKS && strcmp(names[work], name) != 0)
+        work++;
+    if (work == WORKS && strcmp(name, "nothing") != 0)
+        stop(name, "no work has this name");
+    return work;
+}
+
+static void do_once(const char *name) {
     struct bench b;
+    enum work work = work_named(name);
     begin(&b, maker_named("right"), 1);
-    for (enum work work = 0; work < WORKS; work++)
+    if (work != WORKS)
         compare_answer(&b.file, work, works[work](&b));
-    compare_written(&b);
     printf("%lu\n", (unsigned long)b.file.length);
     end(&b);
 }
@@ -232,13 +250,13 @@ int main(int words, char **word) {
         measure_all(1, &usual);
     else if (words == 2 && strcmp(word[1], "small") == 0)
         measure_all(100, &once);
-    else if (words == 2 && strcmp(word[1], "once") == 0)
-        do_once();
     else if (words == 3 && strcmp(word[1], "only") == 0)
         measure_only(word[2], &usual);
+    else if (words == 3 && strcmp(word[1], "once") == 0)
+        do_once(word[2]);
     else if (words == 3 && strcmp(word[1], "write") == 0)
         write_right(word[2]);
     else
-        stop("usage", "bench [small | once | only NAME | write PATH]");
+        stop("usage", "bench [small | only NAME | once WORK | write PATH]");
     return 0;
 }

@@ -173,24 +173,24 @@ static const struct flaw {
     const char *words;
     unsigned finding, header, also;
 } flaws[] = {
-    {"", 80, "QQ", 17, 0, 0},
-    {"", 82, "              ", 18, 0, 0},
-    {"", 96, "T0345246802", 19, 0, 0},
-    {"", 107, "20231301", 20, 0, 0},
-    {"", 127, "   ", 21, 0, 0},
-    {"", 130, "000360", 23, 0, 0},
-    {"SPU", 22, "         ", 26, 0, 0},
-    {"SPU", 79, "12-345678", 37, 0, 0},
-    {"SPU", 113, "QQQ", 36, 0, 0},
-    {"SPU", 116, "00100", 0, 3, 0},
-    {"OPU", 76, "X", 33, 0, 0},
-    {"OPU", 77, "  ", 35, 0, 0},
-    {"SWR", 20, "         ", 42, 0, 0},
-    {"SWR", 130, "00100", 0, 2, 3},
-    {"SWR", 138, "0000 ", 41, 0, 0},
-    {"PER", 20, "                                             ", 43, 0, 0},
-    {"REC", 20, "20230229", 45, 0, 0},
-    {"REC", 88, "      ", 46, 0, 0},
+    {"",    80,  "QQ",                                            17, 0, 0},
+    {"",    82,  "              ",                                18, 0, 0},
+    {"",    96,  "T0345246802",                                   19, 0, 0},
+    {"",    107, "20231301",                                      20, 0, 0},
+    {"",    127, "   ",                                           21, 0, 0},
+    {"",    130, "000360",                                        23, 0, 0},
+    {"SPU", 22,  "         ",                                     26, 0, 0},
+    {"SPU", 79,  "12-345678",                                     37, 0, 0},
+    {"SPU", 113, "QQQ",                                           36, 0, 0},
+    {"SPU", 116, "00100",                                         0,  3, 0},
+    {"OPU", 76,  "X",                                             33, 0, 0},
+    {"OPU", 77,  "  ",                                            35, 0, 0},
+    {"SWR", 20,  "         ",                                     42, 0, 0},
+    {"SWR", 130, "00100",                                         0,  2, 3},
+    {"SWR", 138, "0000 ",                                         41, 0, 0},
+    {"PER", 20,  "                                             ", 43, 0, 0},
+    {"REC", 20,  "20230229",                                      45, 0, 0},
+    {"REC", 88,  "      ",                                        46, 0, 0},
 };
 
 /* The header is judged otherwise where the category is SER. */
@@ -415,8 +415,14 @@ static void make_colliding(struct file *f, uint64_t share) {
 }
 
 const struct maker makers[] = {
-    {"right", make_right},       {"flawed", make_flawed},           {"fault at the end", make_fault}, {"131,072 records", make_short},
-    {"43,690 groups", make_groups}, {"one transaction", make_one}, {"codes missed", make_missed},    {"codes colliding", make_colliding},
+    {"right",            make_right    },
+    {"flawed",           make_flawed   },
+    {"fault at the end", make_fault    },
+    {"131,072 records",  make_short    },
+    {"43,690 groups",    make_groups   },
+    {"one transaction",  make_one      },
+    {"codes missed",     make_missed   },
+    {"codes colliding",  make_colliding},
 };
 const size_t makers_count = sizeof makers / sizeof makers[0];
 

@@ -55,6 +55,7 @@ void forget(struct file *f);
 /* A copy with its numbers wiped out: what numbering is given. */
 uint8_t *unnumbered(const struct file *f);
 
+/* Nothing can be done: status 2. */
 _Noreturn void stop(const char *name, const char *words);
 
 #endif

@@ -2,7 +2,7 @@
 
 _Noreturn void stop(const char *name, const char *words) {
     printf("bench: %s: %s\n", name, words);
-    exit(1);
+    exit(2);
 }
 
 uint64_t below(struct file *f, uint64_t n) {
@@ -167,92 +167,185 @@ static void put_looked_up(struct file *f, const struct field *field, uint8_t *at
 
 /* ---- the types, with their fields */
 
-static const struct field prefix[] = {{4, 8, put_count, 0, TRANSACTION}, {12, 8, put_count, 0, DETAIL}};
+static const struct field prefix[] = {
+    {4,  8, put_count, 0, TRANSACTION},
+    {12, 8, put_count, 0, DETAIL     }
+};
 
 static const struct field hdr[] = {
-    {4, 2, put_words, "PB", 0},          {6, 9, put_words, "000000101", 0},  {15, 45, put_words, "LANTERN QUAY MUSIC", 0},
-    {60, 5, put_words, "01.10", 0},      {65, 8, put_words, "20240112", 0},  {73, 6, put_words, "043000", 0},
-    {79, 8, put_words, "20240112", 0},   {102, 6, put_words, "2.2002", 0},   {108, 30, put_words, "NIGHTLY OUTPUT", 0},
-    {138, 30, put_words, "1", 0},
+    {4,   2,  put_words, "PB",                 0},
+    {6,   9,  put_words, "000000101",          0},
+    {15,  45, put_words, "LANTERN QUAY MUSIC", 0},
+    {60,  5,  put_words, "01.10",              0},
+    {65,  8,  put_words, "20240112",           0},
+    {73,  6,  put_words, "043000",             0},
+    {79,  8,  put_words, "20240112",           0},
+    {102, 6,  put_words, "2.2002",             0},
+    {108, 30, put_words, "NIGHTLY OUTPUT",     0},
+    {138, 30, put_words, "1",                  0},
 };
 static const struct field grh[] = {
-    {4, 3, put_transaction_type, 0, 0}, {7, 5, put_count, 0, GROUPS}, {12, 5, put_words, "02.20", 0}, {17, 10, put_words, "0000000001", 0},
+    {4,  3,  put_transaction_type, 0,            0     },
+    {7,  5,  put_count,            0,            GROUPS},
+    {12, 5,  put_words,            "02.20",      0     },
+    {17, 10, put_words,            "0000000001", 0     },
 };
-static const struct field grt[] = {{4, 5, put_count, 0, GROUPS}, {9, 8, put_count, 0, GROUP_TRANSACTIONS}, {17, 8, put_count, 0, GROUP_RECORDS}};
-static const struct field trl[] = {{4, 5, put_count, 0, GROUPS}, {9, 8, put_count, 0, TRANSACTIONS}, {17, 8, put_count, 0, RECORDS}};
+static const struct field grt[] = {
+    {4,  5, put_count, 0, GROUPS            },
+    {9,  8, put_count, 0, GROUP_TRANSACTIONS},
+    {17, 8, put_count, 0, GROUP_RECORDS     }
+};
+static const struct field trl[] = {
+    {4,  5, put_count, 0, GROUPS      },
+    {9,  8, put_count, 0, TRANSACTIONS},
+    {17, 8, put_count, 0, RECORDS     }
+};
 
 static const struct field nwr[] = {
-    {20, 60, put_text, 0, 0},
-    {80, 2, put_looked_up, 0, LANGUAGES},
-    {82, 10, put_digits, 0, 0},
-    {96, 11, put_iswc, 0, 0},
-    {107, 8, put_date, 0, 0},
-    {127, 3, put_looked_up, 0, CATEGORIES},
-    {130, 6, put_duration, 0, 0},
-    {136, 1, put_choice, "YNU", 0},
-    {137, 3, put_relation, 0, 0},
-    {143, 3, put_version, 0, 0},
-    {155, 30, put_text_or_none, 0, 0},
-    {197, 1, put_words, "N", 0},
+    {20,  60, put_text,         0,     0         },
+    {80,  2,  put_looked_up,    0,     LANGUAGES },
+    {82,  10, put_digits,       0,     0         },
+    {96,  11, put_iswc,         0,     0         },
+    {107, 8,  put_date,         0,     0         },
+    {127, 3,  put_looked_up,    0,     CATEGORIES},
+    {130, 6,  put_duration,     0,     0         },
+    {136, 1,  put_choice,       "YNU", 0         },
+    {137, 3,  put_relation,     0,     0         },
+    {143, 3,  put_version,      0,     0         },
+    {155, 30, put_text_or_none, 0,     0         },
+    {197, 1,  put_words,        "N",   0         },
 };
 static const struct field spu[] = {
-    {20, 2, put_chain, 0, 0},          {22, 9, put_publisher, 0, 0},      {31, 45, put_text, 0, 0},   {77, 2, put_role, 0, 0},
-    {79, 9, put_choice, "         000000000345678901", 0},                 {88, 11, put_digits, 0, 0}, {99, 14, put_text_or_none, 0, 0},
-    {113, 3, put_looked_up, 0, SOCIETIES}, {116, 5, put_share, 0, 0},     {121, 3, put_looked_up, 0, SOCIETIES},
-    {124, 5, put_share, 0, 1},         {129, 3, put_looked_up, 0, SOCIETIES}, {132, 5, put_share, 0, 2}, {138, 1, put_choice, " N", 0},
-    {181, 2, put_choice, "  OSOGPS", 0},
+    {20,  2,  put_chain,        0,                             0        },
+    {22,  9,  put_publisher,    0,                             0        },
+    {31,  45, put_text,         0,                             0        },
+    {77,  2,  put_role,         0,                             0        },
+    {79,  9,  put_choice,       "         000000000345678901", 0        },
+    {88,  11, put_digits,       0,                             0        },
+    {99,  14, put_text_or_none, 0,                             0        },
+    {113, 3,  put_looked_up,    0,                             SOCIETIES},
+    {116, 5,  put_share,        0,                             0        },
+    {121, 3,  put_looked_up,    0,                             SOCIETIES},
+    {124, 5,  put_share,        0,                             1        },
+    {129, 3,  put_looked_up,    0,                             SOCIETIES},
+    {132, 5,  put_share,        0,                             2        },
+    {138, 1,  put_choice,       " N",                          0        },
+    {181, 2,  put_choice,       "  OSOGPS",                    0        },
 };
-static const struct field npn[] = {{20, 2, put_chain, 0, 0}, {22, 9, put_publisher, 0, 0}, {31, 480, put_text, 0, 0}, {511, 2, put_code, 0, LANGUAGES}};
+static const struct field npn[] = {
+    {20,  2,   put_chain,     0, 0        },
+    {22,  9,   put_publisher, 0, 0        },
+    {31,  480, put_text,      0, 0        },
+    {511, 2,   put_code,      0, LANGUAGES}
+};
 static const struct field spt[] = {
-    {20, 9, put_publisher, 0, 0}, {35, 5, put_share, 0, 0}, {40, 5, put_share, 0, 1},        {45, 5, put_share, 0, 2},
-    {50, 1, put_words, "I", 0},   {51, 4, put_choice, "213608400826", 0}, {55, 1, put_words, "N", 0}, {56, 3, put_words, "001", 0},
+    {20, 9, put_publisher, 0,              0},
+    {35, 5, put_share,     0,              0},
+    {40, 5, put_share,     0,              1},
+    {45, 5, put_share,     0,              2},
+    {50, 1, put_words,     "I",            0},
+    {51, 4, put_choice,    "213608400826", 0},
+    {55, 1, put_words,     "N",            0},
+    {56, 3, put_words,     "001",          0},
 };
 static const struct field swr[] = {
-    {20, 9, put_writer, 0, 0},           {29, 45, put_text, 0, 0},   {74, 30, put_text, 0, 0},           {105, 2, put_role, 0, 0},
-    {107, 9, put_choice, "         000000000", 0}, {116, 11, put_digits, 0, 0}, {127, 3, put_code, 0, SOCIETIES}, {130, 5, put_share, 0, 0},
-    {135, 3, put_code, 0, SOCIETIES},    {138, 5, put_share, 0, 1},  {143, 3, put_code, 0, SOCIETIES},   {146, 5, put_share, 0, 2},
-    {152, 1, put_choice, " N", 0},
+    {20,  9,  put_writer, 0,                    0        },
+    {29,  45, put_text,   0,                    0        },
+    {74,  30, put_text,   0,                    0        },
+    {105, 2,  put_role,   0,                    0        },
+    {107, 9,  put_choice, "         000000000", 0        },
+    {116, 11, put_digits, 0,                    0        },
+    {127, 3,  put_code,   0,                    SOCIETIES},
+    {130, 5,  put_share,  0,                    0        },
+    {135, 3,  put_code,   0,                    SOCIETIES},
+    {138, 5,  put_share,  0,                    1        },
+    {143, 3,  put_code,   0,                    SOCIETIES},
+    {146, 5,  put_share,  0,                    2        },
+    {152, 1,  put_choice, " N",                 0        },
 };
 static const struct field swt[] = {
-    {20, 9, put_writer, 0, 0},  {29, 5, put_share, 0, 0},             {34, 5, put_share, 0, 1},    {39, 5, put_share, 0, 2},
-    {44, 1, put_words, "I", 0}, {45, 4, put_choice, "213608400826", 0}, {49, 1, put_words, "N", 0}, {50, 3, put_words, "001", 0},
+    {20, 9, put_writer, 0,              0},
+    {29, 5, put_share,  0,              0},
+    {34, 5, put_share,  0,              1},
+    {39, 5, put_share,  0,              2},
+    {44, 1, put_words,  "I",            0},
+    {45, 4, put_choice, "213608400826", 0},
+    {49, 1, put_words,  "N",            0},
+    {50, 3, put_words,  "001",          0},
 };
 static const struct field pwr[] = {
-    {20, 9, put_publisher, 0, 0}, {29, 45, put_text, 0, 0}, {74, 14, put_text_or_none, 0, 0}, {102, 9, put_writer, 0, 0}, {111, 2, put_words, "01", 0},
+    {20,  9,  put_publisher,    0,    0},
+    {29,  45, put_text,         0,    0},
+    {74,  14, put_text_or_none, 0,    0},
+    {102, 9,  put_writer,       0,    0},
+    {111, 2,  put_words,        "01", 0},
 };
-static const struct field alt[] = {{20, 60, put_text, 0, 0}, {80, 2, put_choice, "ATTEFTITOTTTPAATRTETOLALAT", 0}, {82, 2, put_code, 0, LANGUAGES}};
+static const struct field alt[] = {
+    {20, 60, put_text,   0,                            0        },
+    {80, 2,  put_choice, "ATTEFTITOTTTPAATRTETOLALAT", 0        },
+    {82, 2,  put_code,   0,                            LANGUAGES}
+};
 static const struct field ewt[] = {
-    {20, 60, put_text, 0, 0}, {80, 11, put_iswc, 0, 0}, {91, 2, put_code, 0, LANGUAGES}, {93, 45, put_text, 0, 0}, {138, 30, put_text, 0, 0},
-    {168, 60, put_text_or_none, 0, 0}, {228, 11, put_digits, 0, 0},
+    {20,  60, put_text,         0, 0        },
+    {80,  11, put_iswc,         0, 0        },
+    {91,  2,  put_code,         0, LANGUAGES},
+    {93,  45, put_text,         0, 0        },
+    {138, 30, put_text,         0, 0        },
+    {168, 60, put_text_or_none, 0, 0        },
+    {228, 11, put_digits,       0, 0        },
 };
-static const struct field per[] = {{20, 45, put_text, 0, 0}, {65, 30, put_text_or_none, 0, 0}, {95, 11, put_digits, 0, 0}};
+static const struct field per[] = {
+    {20, 45, put_text,         0, 0},
+    {65, 30, put_text_or_none, 0, 0},
+    {95, 11, put_digits,       0, 0}
+};
 static const struct field rec[] = {
-    {20, 8, put_date, 0, 0},
-    {88, 6, put_duration, 0, 0},
-    {99, 60, put_text, 0, 0},
-    {159, 60, put_text, 0, 0},
-    {219, 18, put_text_or_none, 0, 0},
-    {237, 13, put_digits, 0, 0},
-    {250, 12, put_choice, "            GBLQM2300017", 0},
-    {262, 2, put_words, "AD", 0},
-    {264, 3, put_choice, "   CDMDIG", 0},
-    {267, 60, put_text, 0, 0},
-    {327, 60, put_text_or_none, 0, 0},
-    {387, 60, put_text, 0, 0},
-    {447, 60, put_text_or_none, 0, 0},
-    {527, 10, put_digits, 0, 0},
+    {20,  8,  put_date,         0,                          0},
+    {88,  6,  put_duration,     0,                          0},
+    {99,  60, put_text,         0,                          0},
+    {159, 60, put_text,         0,                          0},
+    {219, 18, put_text_or_none, 0,                          0},
+    {237, 13, put_digits,       0,                          0},
+    {250, 12, put_choice,       "            GBLQM2300017", 0},
+    {262, 2,  put_words,        "AD",                       0},
+    {264, 3,  put_choice,       "   CDMDIG",                0},
+    {267, 60, put_text,         0,                          0},
+    {327, 60, put_text_or_none, 0,                          0},
+    {387, 60, put_text,         0,                          0},
+    {447, 60, put_text_or_none, 0,                          0},
+    {527, 10, put_digits,       0,                          0},
 };
 static const struct field orn[] = {
-    {20, 3, put_choice, "FILTELLIBRADVID", 0}, {23, 60, put_text, 0, 0},          {102, 60, put_text_or_none, 0, 0}, {188, 12, put_digits, 0, 0},
-    {200, 60, put_text_or_none, 0, 0},         {260, 4, put_digits, 0, 0},        {280, 4, put_choice, "201920212023", 0},
+    {20,  3,  put_choice,       "FILTELLIBRADVID", 0},
+    {23,  60, put_text,         0,                 0},
+    {102, 60, put_text_or_none, 0,                 0},
+    {188, 12, put_digits,       0,                 0},
+    {200, 60, put_text_or_none, 0,                 0},
+    {260, 4,  put_digits,       0,                 0},
+    {280, 4,  put_choice,       "201920212023",    0},
 };
-static const struct field ins[] = {{20, 3, put_words, "004", 0}, {26, 50, put_text, 0, 0}};
-static const struct field ind[] = {{20, 3, put_choice, "VLNVLACLOFLTOBO", 0}, {23, 3, put_words, "001", 0}};
+static const struct field ins[] = {
+    {20, 3,  put_words, "004", 0},
+    {26, 50, put_text,  0,     0}
+};
+static const struct field ind[] = {
+    {20, 3, put_choice, "VLNVLACLOFLTOBO", 0},
+    {23, 3, put_words,  "001",             0}
+};
 static const struct field com[] = {
-    {20, 60, put_text, 0, 0}, {80, 11, put_iswc, 0, 0},  {91, 10, put_digits, 0, 0}, {105, 6, put_duration, 0, 0},
-    {111, 45, put_text, 0, 0}, {156, 30, put_text, 0, 0}, {186, 11, put_digits, 0, 0},
+    {20,  60, put_text,     0, 0},
+    {80,  11, put_iswc,     0, 0},
+    {91,  10, put_digits,   0, 0},
+    {105, 6,  put_duration, 0, 0},
+    {111, 45, put_text,     0, 0},
+    {156, 30, put_text,     0, 0},
+    {186, 11, put_digits,   0, 0},
 };
-static const struct field xrf[] = {{20, 3, put_code, 0, SOCIETIES}, {23, 10, put_digits, 0, 0}, {37, 2, put_choice, "WYRYPYVY", 0}};
+static const struct field xrf[] = {
+    {20, 3,  put_code,   0,          SOCIETIES},
+    {23, 10, put_digits, 0,          0        },
+    {37, 2,  put_choice, "WYRYPYVY", 0        }
+};
 
 /* Where a type stands in a file. */
 enum place { FIRST, OPENS, HEADER, DETAILS, CLOSES, LAST };
@@ -266,12 +359,30 @@ static const struct type {
     const struct field *fields;
     size_t count;
 } types[] = {
-    {"HDR", 167, FIRST, FIELDS(hdr)},   {"GRH", 28, OPENS, FIELDS(grh)},    {"GRT", 37, CLOSES, FIELDS(grt)},   {"TRL", 24, LAST, FIELDS(trl)},
-    {"NWR", 260, HEADER, FIELDS(nwr)},  {"REV", 260, HEADER, FIELDS(nwr)},  {"SPU", 183, DETAILS, FIELDS(spu)}, {"OPU", 183, DETAILS, FIELDS(spu)},
-    {"NPN", 512, DETAILS, FIELDS(npn)}, {"SPT", 58, DETAILS, FIELDS(spt)},  {"SWR", 180, DETAILS, FIELDS(swr)}, {"OWR", 180, DETAILS, FIELDS(swr)},
-    {"SWT", 52, DETAILS, FIELDS(swt)},  {"PWR", 112, DETAILS, FIELDS(pwr)}, {"ALT", 83, DETAILS, FIELDS(alt)},  {"EWT", 364, DETAILS, FIELDS(ewt)},
-    {"VER", 364, DETAILS, FIELDS(ewt)}, {"PER", 118, DETAILS, FIELDS(per)}, {"REC", 540, DETAILS, FIELDS(rec)}, {"ORN", 348, DETAILS, FIELDS(orn)},
-    {"INS", 75, DETAILS, FIELDS(ins)},  {"IND", 25, DETAILS, FIELDS(ind)},  {"COM", 308, DETAILS, FIELDS(com)}, {"XRF", 38, DETAILS, FIELDS(xrf)},
+    {"HDR", 167, FIRST,   FIELDS(hdr)},
+    {"GRH", 28,  OPENS,   FIELDS(grh)},
+    {"GRT", 37,  CLOSES,  FIELDS(grt)},
+    {"TRL", 24,  LAST,    FIELDS(trl)},
+    {"NWR", 260, HEADER,  FIELDS(nwr)},
+    {"REV", 260, HEADER,  FIELDS(nwr)},
+    {"SPU", 183, DETAILS, FIELDS(spu)},
+    {"OPU", 183, DETAILS, FIELDS(spu)},
+    {"NPN", 512, DETAILS, FIELDS(npn)},
+    {"SPT", 58,  DETAILS, FIELDS(spt)},
+    {"SWR", 180, DETAILS, FIELDS(swr)},
+    {"OWR", 180, DETAILS, FIELDS(swr)},
+    {"SWT", 52,  DETAILS, FIELDS(swt)},
+    {"PWR", 112, DETAILS, FIELDS(pwr)},
+    {"ALT", 83,  DETAILS, FIELDS(alt)},
+    {"EWT", 364, DETAILS, FIELDS(ewt)},
+    {"VER", 364, DETAILS, FIELDS(ewt)},
+    {"PER", 118, DETAILS, FIELDS(per)},
+    {"REC", 540, DETAILS, FIELDS(rec)},
+    {"ORN", 348, DETAILS, FIELDS(orn)},
+    {"INS", 75,  DETAILS, FIELDS(ins)},
+    {"IND", 25,  DETAILS, FIELDS(ind)},
+    {"COM", 308, DETAILS, FIELDS(com)},
+    {"XRF", 38,  DETAILS, FIELDS(xrf)},
 };
 
 static const struct type *type_of(const void *name) {
