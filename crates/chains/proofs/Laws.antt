@@ -6,7 +6,7 @@ use mathlib.Core.Path.{_≡_, refl, sym, ap, _∙_}
 use mathlib.Core.Bool.{Bool, true, false, not, cond, _&&_, _||_, and-eq-true-iff, and-true, and-false, and-assoc, or-comm}
 use mathlib.Core.List.{List, [], _∷_, _++_}
 use lib.Dec.{ltb, eqb}
-use lib.ListN.{length, getD, set, replicate, getD-replicate, length-take, length-drop}
+use lib.ListN.{length, getD, set, replicate, getD-replicate, length-set, length-replicate, length-take, length-drop}
 use lib.Seq.{getD-set-same, getD-set-other}
 use borrow.Author.Tests.{eqb-true, eq-eqb, lt-ltb}
 use Rattle.format.specs.Bytes.{Bytes, All, sameBytes}
@@ -18,23 +18,26 @@ use Rattle.rules.specs.Totals.{PR, MR, SR, publisherShare, sumOf}
 use Rattle.rules.specs.Chains.{inChain, chain, anyBelow, anyChain, manyE, joinedByOPU, aqBehind, allShares, countsSPU, paidE, begunBySPU, shareless, is11, is12, is13, is14}
 use Rattle.rules.proofs.Lists.{any-last, count-last, sum-only-last, any-only, any-same, only-fewer, sum-most}
 use Rattle.rules.proofs.Fields.{all-shares-most, two-digits}
-use Rattle.chains.specs.declared.Chains.{Chains}
-use Rattle.chains.specs.Tallies.{begunBy, ownE, TallyOf, Tallied, Small, Whole}
+use Rattle.chains.specs.Tallies.{begunBy, ownE, ownShares, TallyOf, Chains, Tallied, Small, Whole}
 use Rattle.chains.proofs.Growth.{chain-kept, chain-left, elsewhere, same-or-not, below-left, flag-more, many-more, joined-more, behind-more, begun-more}
 
 -- ---- one record more
 
 -- the entry of the chain that a record joins is set to what it is of that chain then; the other entries stand
 tally-more : {A : Type 0} (l : List A) (beyond : A) (f : List Bytes → A) (k : ℕ) (ds : List Bytes) (r : Bytes) (v : A)
-    → length l ≡ 100 → k < 100 → inChain k r ≡ true → TallyOf l beyond f ds → v ≡ f (chain k ds ++ r ∷ []) → TallyOf (set l k v) beyond f (ds ++ r ∷ [])
-tally-more l beyond f k ds r v len h inside t e j hj =
-    same-or-not j k
-    (λ q. rw (q, getD-set-same l k v beyond (omega arith), chain-kept k ds r inside) e)
-    (λ n. getD-set-other l k j v beyond n ∙ t j hj ∙ ap f (sym (chain-left j ds r (elsewhere j k r inside n))))
+    → k < 100 → inChain k r ≡ true → TallyOf l beyond f ds → v ≡ f (chain k ds ++ r ∷ []) → TallyOf (set l k v) beyond f (ds ++ r ∷ [])
+tally-more l beyond f k ds r v h inside t e =
+    record {
+      long = length-set l k v ∙ t .long;
+      at =
+          λ j hj. same-or-not j k
+          (λ q. rw (q, getD-set-same l k v beyond (omega (arith, t .long)), chain-kept k ds r inside) e)
+          (λ n. getD-set-other l k j v beyond n ∙ t .at j hj ∙ ap f (sym (chain-left j ds r (elsewhere j k r inside n))));
+    }
 
 tally-left : {A : Type 0} (l : List A) (beyond : A) (f : List Bytes → A) (ds : List Bytes) (r : Bytes)
     → ((k : ℕ) → k < 100 → inChain k r ≡ false) → TallyOf l beyond f ds → TallyOf l beyond f (ds ++ r ∷ [])
-tally-left l beyond f ds r out t k h = t k h ∙ ap f (sym (chain-left k ds r (out k h)))
+tally-left l beyond f ds r out t = record { long = t .long; at = λ k h. t .at k h ∙ ap f (sym (chain-left k ds r (out k h))) }
 
 has-share : (a b c : ℕ) → ltb 0 (a + b + c) ≡ (ltb 0 a || ltb 0 b || ltb 0 c)
 has-share (suc a) b c = rw (lt-ltb 0 (suc a + b + c) (omega arith), lt-ltb 0 (suc a) (omega arith))
@@ -47,15 +50,7 @@ publisher-in k r e = and-eq-true-iff _ _ .0 (and-eq-true-iff (isPublisher r && a
 pub in-chain : (k : ℕ) (r : Bytes) → isPublisher r ≡ true → areDigits (sequenceNumber r) ≡ true → numberOf (sequenceNumber r) ≡ k → inChain k r ≡ true
 in-chain k r p d n = rw (p, d) (eq-eqb (numberOf (sequenceNumber r)) k n)
 
--- every array has its hundred entries
-pub record Hundred (c : Chains) : Type 0 where
-  pub begun : length (c .begun) ≡ 100
-  pub es : length (c .es) ≡ 100
-  pub own : length (c .own) ≡ 100
-  pub paid : length (c .paid) ≡ 100
-  pub sums : length (c .sums) ≡ 100
-
--- as `Chains::with` writes it
+-- as `join` writes it
 abbrev pub joinedBy : Chains → ℕ → Bool → Bool → Bool → ℕ → Chains
 joinedBy c k spu e aq shares =
     record {
@@ -69,47 +64,47 @@ joinedBy c k spu e aq shares =
       behind = c .behind || (getD (c .paid) k false && spu && aq);
     }
 
-module _ (c : Chains) (whole : Hundred c) (k : ℕ) (h : k < 100) (ds : List Bytes) (r : Bytes) (t : Tallied c ds) (inside : inChain k r ≡ true) where
+module _ (c : Chains) (k : ℕ) (h : k < 100) (ds : List Bytes) (r : Bytes) (t : Tallied c ds) (inside : inChain k r ≡ true) where
   abbrev before : List Bytes
   before = chain k ds
 
   many-then : (c .many || (isE r && ltb 0 (getD (c .es) k 0))) ≡ is11 (ds ++ r ∷ [])
   unfolding is11
-  many-then = flag-more manyE k ds r _ inside (rw (t .es k h) (many-more before r)) (c .many) h (t .many)
+  many-then = flag-more manyE k ds r _ inside (rw (t .es .at k h) (many-more before r)) (c .many) h (t .many)
 
   joined-then : (c .joined || (not (isType "SPU" r) && eqb (getD (c .begun) k 0) 1)) ≡ is13 (ds ++ r ∷ [])
   unfolding is13
-  joined-then = flag-more joinedByOPU k ds r _ inside (rw (t .begun k h) (joined-more before r (publisher-in k r inside))) (c .joined) h (t .joined)
+  joined-then = flag-more joinedByOPU k ds r _ inside (rw (t .begun .at k h) (joined-more before r (publisher-in k r inside))) (c .joined) h (t .joined)
 
   behind-then : (c .behind || (getD (c .paid) k false && isType "SPU" r && isAQ r)) ≡ is14 (ds ++ r ∷ [])
   unfolding is14
-  behind-then = flag-more (aqBehind false) k ds r _ inside (rw (t .paid k h) (behind-more false before r)) (c .behind) h (t .behind)
+  behind-then = flag-more (aqBehind false) k ds r _ inside (rw (t .paid .at k h) (behind-more false before r)) (c .behind) h (t .behind)
 
   paid-then : (getD (c .paid) k false || (isE r && ltb 0 (allShares r))) ≡ any paidE (before ++ r ∷ [])
   paid-then =
       ap (λ (b : Bool). getD (c .paid) k false || (isE r && b)) (has-share (publisherShare PR r) (publisherShare MR r) (publisherShare SR r))
-      ∙ ap (λ (b : Bool). b || paidE r) (t .paid k h)
+      ∙ ap (λ (b : Bool). b || paidE r) (t .paid .at k h)
       ∙ sym (any-last paidE before r)
 
   pub more : Tallied (joinedBy c k (isType "SPU" r) (isE r) (isAQ r) (allShares r)) (ds ++ r ∷ [])
   more =
       record {
-        begun = tally-more (c .begun) 0 begunBy k ds r _ (whole .begun) h inside (t .begun) (rw (t .begun k h) (sym (begun-more before r)));
-        es = tally-more (c .es) 0 (λ rs. length (only isE rs)) k ds r _ (whole .es) h inside (t .es) (rw (t .es k h) (sym (count-last isE before r)));
-        own = tally-more (c .own) false (any ownE) k ds r _ (whole .own) h inside (t .own) (rw (t .own k h) (sym (any-last ownE before r)));
-        paid = tally-more (c .paid) false (any paidE) k ds r _ (whole .paid) h inside (t .paid) paid-then;
+        begun = tally-more (c .begun) 0 begunBy k ds r _ h inside (t .begun) (rw (t .begun .at k h) (sym (begun-more before r)));
+        es = tally-more (c .es) 0 (λ rs. length (only isE rs)) k ds r _ h inside (t .es) (rw (t .es .at k h) (sym (count-last isE before r)));
+        own = tally-more (c .own) false (any ownE) k ds r _ h inside (t .own) (rw (t .own .at k h) (sym (any-last ownE before r)));
+        paid = tally-more (c .paid) false (any paidE) k ds r _ h inside (t .paid) paid-then;
         sums =
-            tally-more (c .sums) 0 (λ rs. sumOf allShares (only countsSPU rs)) k ds r _ (whole .sums) h inside (t .sums)
-            (rw (t .sums k h) (sym (sum-only-last countsSPU allShares before r)));
+            tally-more (c .sums) 0 ownShares k ds r _ h inside (t .sums)
+            (rw (t .sums .at k h) (sym (sum-only-last countsSPU allShares before r)));
         many = many-then;
         joined = joined-then;
         behind = behind-then;
       }
 
 -- the same, with the record's properties as the walk knows them
-pub with-more : (c : Chains) (k : ℕ) (ds : List Bytes) (r : Bytes) (spu e aq : Bool) (shares : ℕ) → Hundred c → k < 100 → Tallied c ds → inChain k r ≡ true
+pub with-more : (c : Chains) (k : ℕ) (ds : List Bytes) (r : Bytes) (spu e aq : Bool) (shares : ℕ) → k < 100 → Tallied c ds → inChain k r ≡ true
     → isType "SPU" r ≡ spu → isE r ≡ e → isAQ r ≡ aq → allShares r ≡ shares → Tallied (joinedBy c k spu e aq shares) (ds ++ r ∷ [])
-with-more c k ds r spu e aq shares whole h t inside p q s n = rw (← p, ← q, ← s, ← n) (more c whole k h ds r t inside)
+with-more c k ds r spu e aq shares h t inside p q s n = rw (← p, ← q, ← s, ← n) (more c k h ds r t inside)
 
 -- ---- a record in no chain
 
@@ -125,7 +120,7 @@ module _ (c : Chains) (ds : List Bytes) (r : Bytes) (t : Tallied c ds) where
         es = tally-left (c .es) 0 (λ rs. length (only isE rs)) ds r out (t .es);
         own = tally-left (c .own) false (any ownE) ds r out (t .own);
         paid = tally-left (c .paid) false (any paidE) ds r out (t .paid);
-        sums = tally-left (c .sums) 0 (λ rs. sumOf allShares (only countsSPU rs)) ds r out (t .sums);
+        sums = tally-left (c .sums) 0 ownShares ds r out (t .sums);
         many = flag-left manyE (c .many) out (t .many);
         joined = flag-left joinedByOPU (c .joined) out (t .joined);
         behind = flag-left (aqBehind false) (c .behind) out (t .behind);
@@ -141,15 +136,19 @@ module _ (c : Chains) (ds : List Bytes) (r : Bytes) (t : Tallied c ds) where
 
 -- ---- no records yet
 
+tally-none : {A : Type 0} (x : A) (f : List Bytes → A) → f [] ≡ x → TallyOf (replicate 100 x) x f []
+unfolding chain
+tally-none {A} x f e = record { long = length-replicate 100 x; at = λ k h. getD-replicate {A = A} 100 k x x h ∙ sym e }
+
 pub begins : Tallied (record { begun = replicate 100 0; es = replicate 100 0; own = replicate 100 false; paid = replicate 100 false; sums = replicate 100 0; many = false; joined = false; behind = false }) []
 unfolding chain is11 is13 is14
 begins =
     record {
-      begun = λ k h. getD-replicate {A = ℕ} 100 k 0 0 h;
-      es = λ k h. getD-replicate {A = ℕ} 100 k 0 0 h;
-      own = λ k h. getD-replicate {A = Bool} 100 k false false h;
-      paid = λ k h. getD-replicate {A = Bool} 100 k false false h;
-      sums = λ k h. getD-replicate {A = ℕ} 100 k 0 0 h;
+      begun = tally-none 0 begunBy refl;
+      es = tally-none 0 (λ rs. length (only isE rs)) refl;
+      own = tally-none false (any ownE) refl;
+      paid = tally-none false (any paidE) refl;
+      sums = tally-none 0 ownShares refl;
       many = refl;
       joined = refl;
       behind = refl;
@@ -161,12 +160,12 @@ chain-fewer : (k : ℕ) (ds : List Bytes) → length (chain k ds) ≤ length ds
 unfolding chain
 chain-fewer k ds = only-fewer (inChain k) ds
 
-pub small : (c : Chains) (ds : List Bytes) → Tallied c ds → length ds ≤ 131072 → Small c
+pub small : (c : Chains) (ds : List Bytes) → Tallied c ds → length ds ≤ 131072 → Small (c .es) (c .sums)
 small c ds t h =
     record {
-      es≤ = λ k b. rw (t .es k b) (omega (arith, only-fewer isE (chain k ds), chain-fewer k ds));
+      es≤ = λ k b. rw (t .es .at k b) (omega (arith, only-fewer isE (chain k ds), chain-fewer k ds));
       sums≤ =
-          λ k b. rw (t .sums k b)
+          λ k b. rw (t .sums .at k b)
           (omega (arith, sum-most allShares 299997 all-shares-most (only countsSPU (chain k ds)), only-fewer countsSPU (chain k ds), chain-fewer k ds));
     }
 
@@ -205,10 +204,11 @@ module _ (k : ℕ) (r : Bytes) (hr : Whole r) (inside : inChain k r ≡ true) wh
   all-same (p ∷ ds) w =
       (ap (λ (b : Bool). b && ownE p) (in-same k r p hr (w .0) inside) ∙ sym (and-assoc (sameChain r p) (isType "SPU" p) (isE p)), all-same ds (w .1))
 
-  pub knows : (c : Chains) (ds : List Bytes) → k < 100 → Tallied c ds → All Whole ds → getD (c .own) k false ≡ any (λ p. sameChain r p && isType "SPU" p && isE p) ds
+  pub knows : (own : List Bool) (ds : List Bytes) → k < 100 → TallyOf own false (any ownE) ds → All Whole ds
+      → getD own k false ≡ any (λ p. sameChain r p && isType "SPU" p && isE p) ds
   unfolding chain
-  knows c ds h t w =
-      t .own k h
+  knows own ds h t w =
+      t .at k h
       ∙ any-only (inChain k) ownE ds
       ∙ any-same (λ p. inChain k p && ownE p) (λ p. sameChain r p && isType "SPU" p && isE p) ds (all-same ds w)
 
@@ -217,7 +217,7 @@ pub knows-none : (r : Bytes) (ds : List Bytes) → areDigits (sequenceNumber r) 
 knows-none r [] e = refl
 knows-none r (p ∷ ds) e = rw (e, and-false (isPublisher p)) (rw e at (knows-none r ds e))
 
--- ---- 12, as `Chains::shareless` looks for it
+-- ---- 12, as `shareless` looks for it
 
 -- some chain of a number below n
 abbrev pub foundBelow : List ℕ → List ℕ → ℕ → Bool
@@ -232,11 +232,12 @@ begun-spu (r ∷ c) = one-or-two (isType "SPU" r)
     one-or-two true = refl
     one-or-two false = refl
 
-found-below : (c : Chains) (ds : List Bytes) → Tallied c ds → (n : ℕ) → n ≤ 100 → foundBelow (c .begun) (c .sums) n ≡ anyBelow n shareless ds
-found-below c ds t zero h = refl
-found-below c ds t (suc n) h =
-    rw (t .begun n h, t .sums n h, begun-spu (chain n ds), found-below c ds t n (omega arith)) (or-comm (anyBelow n shareless ds) (shareless (chain n ds)))
+found-below : (begun sums : List ℕ) (ds : List Bytes) → TallyOf begun 0 begunBy ds → TallyOf sums 0 ownShares ds → (n : ℕ) → n ≤ 100
+    → foundBelow begun sums n ≡ anyBelow n shareless ds
+found-below begun sums ds b t zero h = refl
+found-below begun sums ds b t (suc n) h =
+    rw (b .at n h, t .at n h, begun-spu (chain n ds), found-below begun sums ds b t n (omega arith)) (or-comm (anyBelow n shareless ds) (shareless (chain n ds)))
 
-pub found-is : (c : Chains) (ds : List Bytes) → Tallied c ds → foundBelow (c .begun) (c .sums) 100 ≡ is12 ds
+pub found-is : (begun sums : List ℕ) (ds : List Bytes) → TallyOf begun 0 begunBy ds → TallyOf sums 0 ownShares ds → foundBelow begun sums 100 ≡ is12 ds
 unfolding is12
-found-is c ds t = found-below c ds t 100 (omega arith)
+found-is begun sums ds b t = found-below begun sums ds b t 100 (omega arith)

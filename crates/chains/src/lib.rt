@@ -1,26 +1,17 @@
 // The chains of publishers in a transaction, findings 11 to 14 and 32: one tally for each two-digit sequence number, 00 to 99, all empty
 // at the start.
 ghost use mathlib.Core.Path.{_≡_};
-ghost use mathlib.Core.Bool.{true, cond, _&&_};
+ghost use mathlib.Core.Bool.{true, false, cond, _&&_};
 ghost use mathlib.Core.List.{List, [], _∷_, _++_};
 ghost use Prim.Native.Nat.{_≤_, _<_};
 ghost use Rattle.format.specs.Bytes.{Bytes, All};
 ghost use Rattle.rules.specs.Records.{isType, any};
 ghost use Rattle.rules.specs.Publisher.{isE, isAQ, sameChain};
 ghost use Rattle.rules.specs.Chains.{inChain, allShares, is12};
-ghost use Rattle.chains.specs.Tallies.{Tallied, Small, Whole};
+ghost use Rattle.chains.specs.Tallies.{begunBy, ownE, ownShares, TallyOf, chainsOf, Tallied, Small, Whole};
 
-pub struct Chains {
-    // What a chain's first record is: 1 for SPU, 2 for OPU, 0 while it has none.
-    pub begun: [u8; 100],
-    // How many E records it has.
-    pub es: [u32; 100],
-    // Whether one of them is an SPU.
-    pub own: [bool; 100],
-    // Whether one of them has a share above 0.
-    pub paid: [bool; 100],
-    // The shares of its SPU records of type E and AQ, all rights together.
-    pub sums: [u64; 100],
+// What the chains have shown so far.
+pub struct Met {
     // Finding 11: some chain has more than one E.
     pub many: bool,
     // Finding 13: an OPU is in a chain begun by SPU.
@@ -29,66 +20,63 @@ pub struct Chains {
     pub behind: bool,
 }
 
-impl Chains {
-    // Before the first record.
-    pub fn empty() -> Chains
-        ensures { λ r. ⌜ Tallied r [] ⌝ }
-    {
-        Chains {
-            begun: [0; 100],
-            es: [0; 100],
-            own: [false; 100],
-            paid: [false; 100],
-            sums: [0; 100],
-            many: false,
-            joined: false,
-            behind: false,
-        }
+// One publisher record more, in chain k: whether it is an SPU, its type in force, and its three shares together. What the record adds to
+// a finding is read off the tallies before it; then its chain's tallies are updated where they stand:
+// - begun: what a chain's first record is, 1 for SPU, 2 for OPU, 0 while it has none;
+// - es: how many E records it has;
+// - own: whether one of them is an SPU;
+// - paid: whether one of them has a share above 0;
+// - sums: the shares of its SPU records of type E and AQ, all rights together.
+pub fn join(
+    k: usize,
+    spu: bool,
+    e: bool,
+    aq: bool,
+    shares: u64,
+    met: Met,
+    begun: &mut [u8; 100],
+    es: &mut [u32; 100],
+    own: &mut [bool; 100],
+    paid: &mut [bool; 100],
+    sums: &mut [u64; 100],
+) -> Met
+    requires { ⌜ (k < 100) × (shares ≤ 299997) × Small (now es) (now sums) ⌝ }
+    ensures { λ m. ⌜ ((ds : List Bytes) (r : Bytes) → Tallied (chainsOf (now (begun .entry)) (now (es .entry)) (now (own .entry)) (now (paid .entry)) (now (sums .entry)) met) ds → inChain k r ≡ true → isType "SPU" r ≡ spu → isE r ≡ e → isAQ r ≡ aq → allShares r ≡ shares → Tallied (chainsOf (now (begun .exit)) (now (es .exit)) (now (own .exit)) (now (paid .exit)) (now (sums .exit)) m) (ds ++ r ∷ [])) ⌝ }
+{
+    let first = begun[k];
+    let count = es[k];
+    let known = own[k];
+    let earned = paid[k];
+    let sum = sums[k];
+    begun[k] = pick(first == 0, pick(spu, 1, 2), first);
+    es[k] = count + one(e);
+    own[k] = known | (spu & e);
+    paid[k] = earned | (e & (0 < shares));
+    sums[k] = sum + counted(spu & (e | aq), shares);
+    Met {
+        many: met.many | (e & (0 < count)),
+        joined: met.joined | (!spu & (first == 1)),
+        behind: met.behind | (earned & spu & aq),
     }
+}
 
-    // Behind one publisher record more, in chain k: whether it is an SPU, its type in force, and its three shares together. What the record
-    // adds to a finding is read off the tallies before it.
-    pub fn with(mut self, k: usize, spu: bool, e: bool, aq: bool, shares: u64) -> Chains
-        requires { ⌜ (k < 100) × (shares ≤ 299997) × Small self ⌝ }
-        ensures { λ c. ⌜ ((ds : List Bytes) (r : Bytes) → Tallied self ds → inChain k r ≡ true → isType "SPU" r ≡ spu → isE r ≡ e → isAQ r ≡ aq → allShares r ≡ shares → Tallied c (ds ++ r ∷ [])) ⌝ }
-    {
-        let begun = self.begun[k];
-        let es = self.es[k];
-        let own = self.own[k];
-        let paid = self.paid[k];
-        let sum = self.sums[k];
-        self.begun[k] = pick(begun == 0, pick(spu, 1, 2), begun);
-        self.es[k] = es + one(e);
-        self.own[k] = own | (spu & e);
-        self.paid[k] = paid | (e & (0 < shares));
-        self.sums[k] = sum + counted(spu & (e | aq), shares);
-        self.many = self.many | (e & (0 < es));
-        self.joined = self.joined | (!spu & (begun == 1));
-        self.behind = self.behind | (paid & spu & aq);
-        self
-    }
+// Whether chain k has an SPU of type E, for finding 32.
+pub fn knows_e(k: usize, own: &[bool; 100]) -> bool
+    requires { ⌜ k < 100 ⌝ }
+    ensures { λ b. ⌜ ((ds : List Bytes) (r : Bytes) → TallyOf (now (own .entry)) false (any ownE) ds → All Whole ds → Whole r → inChain k r ≡ true → b ≡ any (λ p. sameChain r p && isType "SPU" p && isE p) ds) ⌝ }
+{
+    own[k]
+}
 
-    // Whether chain k has an SPU of type E, for finding 32. Only that array is copied.
-    pub fn knows_e(self, k: usize) -> bool
-        requires { ⌜ k < 100 ⌝ }
-        ensures { λ b. ⌜ ((ds : List Bytes) (r : Bytes) → Tallied self ds → All Whole ds → Whole r → inChain k r ≡ true → b ≡ any (λ p. sameChain r p && isType "SPU" p && isE p) ds) ⌝ }
-    {
-        let own = self.own;
-        own[k]
+// Finding 12: in some chain begun by SPU, the SPU records of type E and AQ have no share.
+pub fn shareless(begun: &[u8; 100], sums: &[u64; 100]) -> bool
+    ensures { λ b. ⌜ ((ds : List Bytes) → TallyOf (now (begun .entry)) 0 begunBy ds → TallyOf (now (sums .entry)) 0 ownShares ds → b ≡ is12 ds) ⌝ }
+{
+    let mut found = false;
+    for k in 0..100 {
+        found = found | ((begun[k] == 1) & (sums[k] == 0));
     }
-
-    // Finding 12: in some chain begun by SPU, the SPU records of type E and AQ have no share.
-    pub fn shareless(self) -> bool
-        ensures { λ b. ⌜ ((ds : List Bytes) → Tallied self ds → b ≡ is12 ds) ⌝ }
-    {
-        let begun = self.begun;
-        let sums = self.sums;
-        let mut found = false;
-        for k in 0..100 {
-            found = found | ((begun[k] == 1) & (sums[k] == 0));
-        }
-        found
-    }
+    found
 }
 
 fn pick(b: bool, this: u8, that: u8) -> u8

@@ -1,5 +1,5 @@
 // One detail of a transaction: judged by itself and by what stands before it, and counted for the header.
-use chains::Chains;
+use chains::Met;
 use edits::Found;
 use fields::Share;
 use kinds::EWT;
@@ -13,16 +13,18 @@ use kinds::WRITER;
 use tally::Tally;
 use totals::Rights;
 ghost use mathlib.Core.Path.{_≡_};
+ghost use mathlib.Core.Bool.{false};
 ghost use mathlib.Core.List.{List, [], _∷_, _++_};
 ghost use Prim.Native.Nat.{_+_, _-_, _^_, _<_, _≤_};
 ghost use lib.ListN.{length};
 ghost use Rattle.format.specs.Bytes.{Bytes, All};
 ghost use Rattle.format.specs.Fields.{fieldOf};
 ghost use Rattle.rules.specs.Tables.{Tables};
+ghost use Rattle.rules.specs.Records.{any};
 ghost use Rattle.rules.specs.Values.{shareOf};
 ghost use Rattle.rules.specs.Publisher.{earlierE};
 ghost use Rattle.lookup.specs.Index.{Indexed};
-ghost use Rattle.chains.specs.Tallies.{Tallied, Small, Whole};
+ghost use Rattle.chains.specs.Tallies.{ownE, TallyOf, chainsOf, Tallied, Small, Whole};
 ghost use Rattle.totals.specs.Sums.{AtMost, Below};
 ghost use Rattle.edits.specs.Kinds.{Publisher as IsPublisher, Writer};
 ghost use Rattle.tally.specs.Known.{Known};
@@ -80,32 +82,46 @@ impl Publisher {
     }
 
     // Whether an E SPU of its chain stands before it; a record without two digits is in no chain.
-    pub fn is_known(self, chains: Chains) -> bool
-        ensures { λ b. ⌜ ((ds : List Bytes) (r : Bytes) → Tallied chains ds → All Whole ds → Whole r → Reads self r → b ≡ earlierE ds r) ⌝ }
+    pub fn is_known(self, own: &[bool; 100]) -> bool
+        ensures { λ b. ⌜ ((ds : List Bytes) (r : Bytes) → TallyOf (now (own .entry)) false (any ownE) ds → All Whole ds → Whole r → Reads self r → b ≡ earlierE ds r) ⌝ }
     {
         if self.sequence < 100 {
-            chains.knows_e(self.sequence as usize)
+            chains::knows_e(self.sequence as usize, own)
         } else {
             false
         }
     }
 
-    // The chains with it.
-    pub fn joined_to(self, chains: Chains) -> Chains
-        requires { ⌜ Small chains × AtMost 99999 (self .shares) ⌝ }
-        ensures { λ c. ⌜ ((ds : List Bytes) (r : Bytes) → Tallied chains ds → Reads self r → Tallied c (ds ++ r ∷ [])) ⌝ }
+    // Its chain has it too.
+    pub fn join(
+        self,
+        met: Met,
+        begun: &mut [u8; 100],
+        es: &mut [u32; 100],
+        own: &mut [bool; 100],
+        paid: &mut [bool; 100],
+        sums: &mut [u64; 100],
+    ) -> Met
+        requires { ⌜ Small (now es) (now sums) × AtMost 99999 (self .shares) ⌝ }
+        ensures { λ m. ⌜ ((ds : List Bytes) (r : Bytes) → Tallied (chainsOf (now (begun .entry)) (now (es .entry)) (now (own .entry)) (now (paid .entry)) (now (sums .entry)) met) ds → Reads self r → Tallied (chainsOf (now (begun .exit)) (now (es .exit)) (now (own .exit)) (now (paid .exit)) (now (sums .exit)) m) (ds ++ r ∷ [])) ⌝ }
     {
         let shares = self.shares;
         if self.sequence < 100 {
-            chains.with(
+            chains::join(
                 self.sequence as usize,
                 self.spu,
                 self.e,
                 self.aq,
                 shares.pr + shares.mr + shares.sr,
+                met,
+                begun,
+                es,
+                own,
+                paid,
+                sums,
             )
         } else {
-            chains
+            met
         }
     }
 

@@ -22,8 +22,7 @@ use Rattle.kinds.specs.Rows.{rowFor}
 use Rattle.kinds.proofs.Laws.{place-class}
 use Rattle.structure.specs.Cursor.{Here, First}
 use Rattle.structure.proofs.Cursor.{first as record-here, three-left}
-use Rattle.chains.specs.declared.Chains.{Chains}
-use Rattle.chains.specs.Tallies.{Tallied, Small, Whole}
+use Rattle.chains.specs.Tallies.{Chains, Tallied, Small, Whole}
 use Rattle.chains.proofs.Laws.{small, whole-of}
 use Rattle.totals.specs.Sums.{Below}
 use Rattle.edits.proofs.Before.{last-most}
@@ -160,7 +159,7 @@ module _ (turn : Turn) where
   pub tallied : Tallied c ds
   tallied = going .tallied
 
-  pub small-chains : Small c
+  pub small-chains : Small (c .es) (c .sums)
   small-chains = small c ds (going .tallied) fewer
 
   pub wholes : All Whole ds

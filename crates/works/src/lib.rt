@@ -2,7 +2,7 @@
 // was counted. Each record's set and verdict is written as it comes.
 use buffers::raise;
 use buffers::settle;
-use chains::Chains;
+use chains::Met;
 use edits::TR;
 use heads::Links;
 use kinds::DETAIL;
@@ -12,7 +12,7 @@ use steps::Publisher;
 use steps::Step;
 use tally::Tally;
 ghost use mathlib.Core.Path.{_≡_};
-ghost use mathlib.Core.Bool.{cond};
+ghost use mathlib.Core.Bool.{Bool, cond};
 ghost use mathlib.Core.List.{List, [], _∷_, _++_};
 ghost use Prim.Native.Nat.{ℕ, _+_, _*_, _<_, _≤_};
 ghost use lib.ListN.{length};
@@ -24,7 +24,7 @@ ghost use Rattle.format.specs.Structure.{mostBytes, firstOf};
 ghost use Rattle.rules.specs.Tables.{Tables};
 ghost use Rattle.rules.specs.Values.{largestTolerance};
 ghost use Rattle.lookup.specs.Index.{Indexed};
-ghost use Rattle.chains.specs.Tallies.{Tallied};
+ghost use Rattle.chains.specs.Tallies.{chainsOf, Tallied};
 ghost use Rattle.heads.specs.Headed.{Linked};
 ghost use Rattle.structure.specs.Cursor.{Here, First};
 ghost use Rattle.steps.specs.Stepped.{Stepped};
@@ -78,7 +78,16 @@ pub fn judge_details(
     ensures { λ d. ⌜ ((t : Tables) → t .societies ≡ now (societies .entry) → Done t (now (file .entry)) first (restAt (now (file .entry)) start) d (now (verdicts .entry)) (now (findings .entry)) (now (verdicts .exit)) (now (findings .exit))) ⌝ }
 {
     let rows = kinds::table();
-    let mut chains = Chains::empty();
+    let mut begun: [u8; 100] = [0; 100];
+    let mut es: [u32; 100] = [0; 100];
+    let mut own: [bool; 100] = [false; 100];
+    let mut paid: [bool; 100] = [false; 100];
+    let mut sums: [u64; 100] = [0; 100];
+    let mut met = Met {
+        many: false,
+        joined: false,
+        behind: false,
+    };
     let none = Tally::start();
     let mut w = Walk {
         at: start,
@@ -91,7 +100,7 @@ pub fn judge_details(
         let k = kinds::hint(file[at], file[at + 1], file[at + 2]);
         let row = kinds::confirmed_row(rows[k], &file[at..]);
         if row.place != DETAIL {
-            let links = links_of(chains);
+            let links = links_of(met, &begun, &sums);
             return Details {
                 walk: w,
                 links: links,
@@ -103,9 +112,9 @@ pub fn judge_details(
         let y = w.tally;
         if row.sort == PUBLISHER {
             let p = Publisher::read(record);
-            let known = p.is_known(chains);
+            let known = p.is_known(&own);
             let s = p.judged(record, row, y, known, societies, slots);
-            chains = p.joined_to(chains);
+            met = p.join(met, &mut begun, &mut es, &mut own, &mut paid, &mut sums);
             w = on(w, row, s, verdicts, findings);
         } else {
             let s = steps::other(record, row, y);
@@ -115,14 +124,14 @@ pub fn judge_details(
 }
 
 // Findings 11 to 14.
-fn links_of(chains: Chains) -> Links
-    ensures { λ l. ⌜ ((ds : List Bytes) → Tallied chains ds → Linked l ds) ⌝ }
+fn links_of(met: Met, begun: &[u8; 100], sums: &[u64; 100]) -> Links
+    ensures { λ l. ⌜ ((ds : List Bytes) (es : List ℕ) (own paid : List Bool) → Tallied (chainsOf (now (begun .entry)) es own paid (now (sums .entry)) met) ds → Linked l ds) ⌝ }
 {
     Links {
-        many: chains.many,
-        shareless: chains.shareless(),
-        joined: chains.joined,
-        behind: chains.behind,
+        many: met.many,
+        shareless: chains::shareless(begun, sums),
+        joined: met.joined,
+        behind: met.behind,
     }
 }
 
