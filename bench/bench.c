@@ -3,6 +3,7 @@
  *
  *   bench              every file
  *   bench only NAME    one of them
+ *   bench cold         the file "right", which each work finds in no cache, as a file that has just been loaded
  *   bench small        each file a hundredth as long, once, to see that all works
  *   bench once WORK    one work once on the file "right", untimed, and its length;
  *                      read, copy, structure, check, number, or nothing
@@ -107,22 +108,37 @@ static uint64_t now(void) {
     return (uint64_t)time.seconds * 1000000000u + (uint64_t)time.nanoseconds;
 }
 
-static uint64_t timed(struct bench *b, enum work work) {
+/* More than any cache holds is written, so that nothing else is left in one. */
+static void empty_caches(void) {
+    enum { MANY = 256 << 20 };
+    static uint8_t *bytes;
+    static int byte;
+    if (!bytes && !(bytes = malloc(MANY)))
+        stop("caches", "no memory");
+    memset(bytes, ++byte, MANY);
+    seen = bytes[MANY / 2];
+}
+
+static uint64_t timed(struct bench *b, enum work work, bool cold) {
+    if (cold)
+        empty_caches();
     uint64_t begun = now(), answer = works[work](b), took = now() - begun;
     compare_answer(&b->file, work, answer);
     return took;
 }
 
-/* How often a work is done in a row, unless it takes that long, and how often the works take turns at that. */
+/* How often a work is done in a row, unless it takes that long, and how often the works take turns at that; whether the caches are emptied
+ * before each. */
 struct pace {
     uint64_t in_a_row, nanoseconds, rounds;
+    bool cold;
 };
 
 /* The best time of a row. */
 static uint64_t best_of_row(struct bench *b, enum work work, const struct pace *pace) {
     uint64_t best = UINT64_MAX, spent = 0;
     for (uint64_t i = 0; i < pace->in_a_row && spent < pace->nanoseconds; i++) {
-        uint64_t took = timed(b, work);
+        uint64_t took = timed(b, work, pace->cold);
         spent += took;
         if (took < best)
             best = took;
@@ -130,7 +146,7 @@ static uint64_t best_of_row(struct bench *b, enum work work, const struct pace *
     return best;
 }
 
-/* Each work is done many times in a row, so that it finds in the caches what it left there, and they take turns at that, so that none has
+/* Each work is done many times in a row, so that it finds in the caches what it left there, unless they are emptied; and they take turns at that, so that none has
  * the quieter machine. Numbering is the last that writes to `out`. */
 static void take_turns(struct bench *b, const struct pace *pace, uint64_t best[WORKS]) {
     for (enum work work = 0; work < WORKS; work++)
@@ -245,11 +261,13 @@ static void write_right(const char *path) {
 }
 
 int main(int words, char **word) {
-    const struct pace usual = {20, 100000000, 10}, once = {1, 1, 1};
+    const struct pace usual = {20, 100000000, 10, false}, once = {1, 1, 1, false}, cold = {1, 1, 20, true};
     if (words == 1)
         measure_all(1, &usual);
     else if (words == 2 && strcmp(word[1], "small") == 0)
         measure_all(100, &once);
+    else if (words == 2 && strcmp(word[1], "cold") == 0)
+        measure_only("right", &cold);
     else if (words == 3 && strcmp(word[1], "only") == 0)
         measure_only(word[2], &usual);
     else if (words == 3 && strcmp(word[1], "once") == 0)
@@ -257,6 +275,6 @@ int main(int words, char **word) {
     else if (words == 3 && strcmp(word[1], "write") == 0)
         write_right(word[2]);
     else
-        stop("usage", "bench [small | only NAME | once WORK | write PATH]");
+        stop("usage", "bench [small | cold | only NAME | once WORK | write PATH]");
     return 0;
 }
