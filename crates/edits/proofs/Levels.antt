@@ -5,8 +5,9 @@ use mathlib.Core.List.{List, [], _∷_}
 use Prim.Native.Nat.{ℕ, suc, _+_, _*_}
 use native.Mathlib.Nat.{mul-add, mul-assoc, mul-comm, mul-one, mul-zero, one-mul}
 use native.Mathlib.Omega.{arith}
-use lib.Dec.{eqb, leb·zero}
+use lib.Dec.{eqb}
 use Rattle.rules.specs.Findings.{setOf, Level, FR, RR, TR, GR, level, verdict, larger, worstFrom, worst}
+use Rattle.rules.proofs.Verdicts.{larger-zero}
 
 pub clash : true ≡ false → ⊥
 clash e = let z : _≡_ {A = ℕ} 0 1 = cc in omega arith
@@ -42,9 +43,6 @@ top tr rr fr = cond tr 3 (cond rr 2 (cond fr 1 0))
 abbrev pub holds : ℕ → ℕ → List Bool → Bool
 holds v n [] = false
 holds v n (b ∷ bs) = (eqb (verdict (level n)) v && b) || holds v (suc n) bs
-
-larger-zero : (x : ℕ) → larger 0 x ≡ x
-larger-zero x = rw (leb·zero x)
 
 raised : (l : Level) (b tr rr fr : Bool) → (eqb (verdict l) 4 && b) ≡ false
     → larger (cond b (verdict l) 0) (top tr rr fr) ≡ top ((eqb (verdict l) 3 && b) || tr) ((eqb (verdict l) 2 && b) || rr) ((eqb (verdict l) 1 && b) || fr)

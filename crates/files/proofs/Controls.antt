@@ -3,14 +3,14 @@
 use Prim.Native.Nat.{ℕ, _+_, _-_, _≤_, _<_}
 use native.Mathlib.Omega.{arith}
 use mathlib.Core.Path.{_≡_, refl, sym, ap, _∙_, subst}
-use mathlib.Core.Bool.{Bool, true, false, not, false≢true, _&&_, _||_}
+use mathlib.Core.Bool.{Bool, true, false, _&&_}
 use mathlib.Core.List.{List, [], _∷_}
 use lib.Dec.{T, eqb}
 use lib.ListN.{length, take, drop, getD}
 use lib.Seq.{getD-take, getD-drop}
 use borrow.Author.Tests.{eqb-true}
 use Rattle.format.specs.Bytes.{Bytes, every}
-use Rattle.format.specs.Table.{Class, hdr, grh, head, detail, grt, trl, unknown, Row as FormatRow, row, classOf, lenOf}
+use Rattle.format.specs.Table.{Class, hdr, grh, head, detail, grt, trl, unknown, Row as FormatRow, row, lenOf}
 use Rattle.format.specs.Cwr22.{rows22, cwr22}
 use Rattle.format.specs.Checks.{is, cls, mayFollow, check7}
 use Rattle.format.specs.Structure.{firstOf}
@@ -19,19 +19,19 @@ use Rattle.format.proofs.Passes.{AlongFrom}
 use Rattle.format.proofs.Tree.{is→eq}
 use Rattle.format.proofs.Tests.{both}
 use Rattle.kinds.specs.Rows.{rowFor}
-use Rattle.kinds.proofs.Laws.{row-cases, length-len}
+use Rattle.kinds.proofs.Laws.{inClass, of-class, length-len}
 use Rattle.structure.specs.Cursor.{Here, First}
-use Rattle.structure.proofs.Cursor.{first as record-here}
-use Rattle.works.specs.Walk.{tailOf}
+use Rattle.structure.proofs.Cursor.{first as record-here, placed-like}
 
 -- ---- one type a class
 
--- every row of class k has that length, and its type that first letter
-pub alike : Class → ℕ → ℕ → FormatRow → Bool
-alike k n b (row t m c) = not (is k c) || (eqb m n && eqb (getD t 0 0) b)
+-- the length, and the type's first letter
+pub alike : ℕ → ℕ → FormatRow → Bool
+alike n b (row t m c) = eqb m n && eqb (getD t 0 0) b
 
+-- every row of class k has these
 pub record Control (k : Class) (n b : ℕ) : Type 0 where
-  pub all : every (alike k n b) rows22 ≡ true
+  pub all : every (inClass k (alike n b)) rows22 ≡ true
   pub known : is k unknown ≡ false
 
 pub header : Control hdr 167 72
@@ -50,27 +50,12 @@ pub trailer : Control trl 24 84
 unfolding rows22 alike
 trailer = record { all = refl; known = refl }
 
-is-self : (k : Class) → is k k ≡ true
-is-self hdr = refl
-is-self grh = refl
-is-self head = refl
-is-self detail = refl
-is-self grt = refl
-is-self trl = refl
-is-self unknown = refl
-
 module _ {k : Class} {n b : ℕ} (kind : Control k n b) where
   is-alike : (r : Bytes) → cls cwr22 r ≡ k → (cwr22 .len (take 3 r) ≡ n) × (getD (take 3 r) 0 0 ≡ b)
   unfolding rows22 alike
   is-alike r h =
-      row-cases (λ (f : FormatRow). classOf f ≡ k → (lenOf f ≡ n) × (getD (take 3 r) 0 0 ≡ b)) (alike k n b) (take 3 r)
-      (λ m c e q.
-      let t = both (eqb m n) (eqb (getD (take 3 r) 0 0) b)
-      (rw (is-self k) at (subst (λ (d : Class). (not (is k d) || (eqb m n && eqb (getD (take 3 r) 0 0) b)) ≡ true) q e)) in
-      (eqb-true m n (t .0), eqb-true (getD (take 3 r) 0 0) b (t .1)))
-      rows22 (kind .all)
-      (λ none q. absurd (false≢true (sym (kind .known) ∙ ap (is k) q ∙ is-self k)))
-      h
+      of-class k (alike n b) (kind .all) (kind .known) (λ (f : FormatRow). (lenOf f ≡ n) × (getD (take 3 r) 0 0 ≡ b)) r h
+      (λ m e. let t = both (eqb m n) (eqb (getD (take 3 r) 0 0) b) e in (eqb-true m n (t .0), eqb-true (getD (take 3 r) 0 0) b (t .1)))
 
   -- ---- where such a record stands
 
@@ -100,32 +85,12 @@ module _ {k : Class} {n b : ℕ} (kind : Control k n b) where
 
 -- ---- what follows
 
--- behind a record that is no TRL another stands
-pub some-record : (c : Class) → is trl c ≡ false → (rs : List Bytes) → AlongFrom (check7 cwr22) c rs → rs ≡ firstOf rs ∷ tailOf rs
-some-record c e [] a = absurd (subst T e a)
-some-record c e (r ∷ rs) a = refl
-
--- what may stand behind c may stand behind d
-like : (c d : Class) → is trl c ≡ false → ((e : Class) → mayFollow c e ≡ true → mayFollow d e ≡ true)
-    → (rs : List Bytes) → AlongFrom (check7 cwr22) c rs → AlongFrom (check7 cwr22) d rs
-like c d e more [] a = absurd (subst T e a)
-like c d e more (r ∷ rs) a = (is-T (mayFollow d (cls cwr22 r)) (more (cls cwr22 r) (is-true (mayFollow c (cls cwr22 r)) (a .0))), a .1)
-
-head-more : (e : Class) → mayFollow grh e ≡ true → mayFollow head e ≡ true
-head-more e q = rw q
-
-closed-more : (e : Class) → mayFollow hdr e ≡ true → mayFollow grt e ≡ true
-closed-more e q = rw q
-
 module _ {f : Bytes} {i : ℕ} {rs : List Bytes} where
-  placed-like : (c d : Class) → Here f i c rs → AlongFrom (check7 cwr22) d rs → Here f i d rs
-  placed-like c d h a = record { within = h .within; good = h .good; left = h .left; typed = h .typed; placed = a }
-
   pub as-head : Here f i grh rs → Here f i head rs
-  as-head h = placed-like grh head h (like grh head refl head-more rs (h .placed))
+  as-head h = placed-like grh head refl (λ e q. rw q refl) h
 
   pub as-closed : Here f i hdr rs → Here f i grt rs
-  as-closed h = placed-like hdr grt h (like hdr grt refl closed-more rs (h .placed))
+  as-closed h = placed-like hdr grt refl (λ e q. rw q refl) h
 
 -- the class of the first record, by the one before
 pub follows : (c : Class) → is trl c ≡ false → (rs : List Bytes) → AlongFrom (check7 cwr22) c rs → mayFollow c (cls cwr22 (firstOf rs)) ≡ true

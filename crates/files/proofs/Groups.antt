@@ -26,10 +26,11 @@ use Rattle.structure.proofs.Cursor.{three-left}
 use Rattle.buffers.specs.Written.{Written}
 use Rattle.buffers.proofs.Entries.{kept-v, kept-f, then}
 use Rattle.buffers.proofs.Raised.{raised-over}
+use Rattle.works.proofs.Laws.{some-record}
 use Rattle.works.specs.Walk.{restAt, tailOf, Room}
 use Rattle.files.specs.declared.Next.{Next}
 use Rattle.files.specs.Levels.{transactionsOf, groupOf, behindGroup, isStrayAmong, Judged}
-use Rattle.files.proofs.Controls.{opening, closing, trailer, ends, lent, next, letter, some-record, follows, trl-behind, as-closed, last-record}
+use Rattle.files.proofs.Controls.{opening, closing, trailer, ends, lent, next, letter, follows, trl-behind, as-closed, last-record}
 use Rattle.files.proofs.Levels.{Going, room-left, going-none, going-room, going-on, going-end}
 
 -- ---- one group

@@ -2,7 +2,7 @@
 use Prim.Native.Nat.{ℕ, zero, suc, _+_, _<_}
 use native.Mathlib.Omega.{arith}
 use mathlib.Core.Path.{_≡_, refl, sym, ap, _∙_}
-use mathlib.Core.Bool.{Bool, true, false, false≢true, _||_, or-false, or-assoc}
+use mathlib.Core.Bool.{Bool, true, false, false≢true, _||_}
 use mathlib.Core.List.{List, [], _∷_, _++_, append-nil}
 use lib.ListN.{length}
 use Rattle.format.specs.Bytes.{Bytes}
@@ -18,14 +18,15 @@ use Rattle.format.proofs.Tree.{is→eq}
 use Rattle.format.proofs.Walks.{transaction-first, transactions-none, inside-behind}
 use Rattle.rules.specs.Tables.{Tables}
 use Rattle.rules.specs.Works.{is0, transactionFindings}
-use Rattle.rules.specs.Verdicts.{joined, anyOf, transactionVerdicts}
+use Rattle.rules.specs.Verdicts.{joined, transactionVerdicts}
 use Rattle.structure.specs.Cursor.{Here}
 use Rattle.buffers.proofs.Entries.{kept-v, kept-f}
 use Rattle.works.specs.declared.Passed.{Passed}
 use Rattle.works.specs.Walk.{restAt, tailOf, frontOf, Room, Transacted}
-use Rattle.works.proofs.Laws.{length-details}
+use Rattle.rules.proofs.Verdicts.{any-behind}
+use Rattle.works.proofs.Laws.{length-details, some-record}
 use Rattle.files.specs.Levels.{transactionsOf, isStrayAmong, Judged}
-use Rattle.files.proofs.Controls.{some-record, follows, head-behind, grt-behind, as-head}
+use Rattle.files.proofs.Controls.{follows, head-behind, grt-behind, as-head}
 use Rattle.files.proofs.Levels.{Going, going-none, going-room, going-on, going-end}
 
 -- ---- lists
@@ -42,10 +43,6 @@ nothing-no-detail = refl
 edge-of : (rs : List Bytes) → isDetail cwr22 (firstOf (after (isDetail cwr22) rs)) ≡ false
 edge-of [] = nothing-no-detail
 edge-of (r ∷ rs) = by-cases (isDetail cwr22 r) (λ e. rw e (edge-of rs)) (λ e. rw e e)
-
-any-last : {A : Type 0} (p : A → Bool) (xs : List A) (x : A) → anyOf p (xs ++ x ∷ []) ≡ (anyOf p xs || p x)
-any-last p [] x = or-false (p x)
-any-last p (y ∷ xs) x = rw (any-last p xs x) (sym (or-assoc (p y) (anyOf p xs) (p x)))
 
 -- only 2 is the place of a header
 place-head : (n : ℕ) → classAt n ≡ head → n ≡ 2
@@ -156,7 +153,7 @@ module _ (tables : Tables) (t : ℕ) (named f : Bytes) (start i : ℕ) (v₀ g�
           stray =
               ap (λ b. b || q .stray) (among .stray)
               ∙ ap (λ b. isStrayAmong named xs || b) (done .stray)
-              ∙ sym (any-last (λ (x : Transaction). is0 named (x .header)) xs (frontOf (restAt f (p .at))));
+              ∙ sym (any-behind (λ (x : Transaction). is0 named (x .header)) xs (frontOf (restAt f (p .at))));
         },
       )
 

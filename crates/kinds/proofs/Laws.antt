@@ -2,17 +2,17 @@
 -- Assumes nothing.
 use Prim.Native.Nat.{ℕ, zero, suc, _+_, _<_, _≤_}
 use native.Mathlib.Omega.{arith}
-use mathlib.Core.Path.{_≡_, refl, sym, ap, _∙_}
-use mathlib.Core.Bool.{Bool, true, false, cond}
+use mathlib.Core.Path.{_≡_, refl, sym, ap, _∙_, subst}
+use mathlib.Core.Bool.{Bool, true, false, not, cond, false≢true, _||_}
 use mathlib.Core.List.{List, [], _∷_, map}
 use lib.ListN.{length, getD, take, length-take}
 use lib.Seq.{take-all}
 use lib.Dec.{eqb}
 use borrow.Author.Tests.{eqb-true}
 use Rattle.format.specs.Bytes.{Bytes, every, sameBytes, among}
-use Rattle.format.specs.Table.{Class, known, Row as FormatRow, row, noType, rowOf, classOf, lenOf}
+use Rattle.format.specs.Table.{Class, hdr, grh, head, detail, grt, trl, unknown, known, Row as FormatRow, row, noType, rowOf, classOf, lenOf}
 use Rattle.format.specs.Cwr22.{rows22, cwr22}
-use Rattle.format.specs.Checks.{code, cls}
+use Rattle.format.specs.Checks.{code, is, cls}
 use Rattle.format.specs.Stages.{stages, spots, begins}
 use Rattle.kinds.specs.Rows.{codeRow, kinds, rowFor, typeOf, noRow, firstOf, spotsOf, sorts, sortFrom, sortOf}
 use Rattle.kinds.specs.declared.Row.{Row}
@@ -102,6 +102,36 @@ module _ (C : FormatRow → Type 0) (p : FormatRow → Bool) (t : Bytes) (found 
       by-cases (sameBytes u t)
       (λ e. rw (e, same→eq u t e) (found n c (rw (same→eq u t e) at (pq .0))))
       (λ e. rw e (row-cases fs (pq .1) (rw e at none)))
+
+-- ---- what all rows of a class have in common
+
+is-self : (k : Class) → is k k ≡ true
+is-self hdr = refl
+is-self grh = refl
+is-self head = refl
+is-self detail = refl
+is-self grt = refl
+is-self trl = refl
+is-self unknown = refl
+
+-- a row of class k passes the test
+abbrev pub inClass : Class → (FormatRow → Bool) → FormatRow → Bool
+inClass k p f = not (is k (classOf f)) || p f
+
+-- what follows from the test holds of the row of each record of the class
+pub of-class : (k : Class) (p : FormatRow → Bool) → every (inClass k p) rows22 ≡ true → is k unknown ≡ false → (C : FormatRow → Type 0) (r : Bytes)
+    → cls cwr22 r ≡ k → ((n : ℕ) → p (row (take 3 r) n k) ≡ true → C (row (take 3 r) n k)) → C (rowOf rows22 (take 3 r))
+unfolding rows22
+of-class k p all named C r h found =
+    row-cases (λ (f : FormatRow). classOf f ≡ k → C f) (inClass k p) (take 3 r)
+    (λ n c e q.
+    subst (λ (d : Class). C (row (take 3 r) n d)) (sym q)
+    (found n (rw (is-self k) at (subst (λ (d : Class). (not (is k d) || p (row (take 3 r) n d)) ≡ true) q e))))
+    rows22 all
+    (λ none q. absurd (false≢true (sym named ∙ ap (is k) q ∙ is-self k)))
+    h
+
+-- ---- types that are not there
 
 -- each type of the stages is in the table, so a type that is not has no spot
 listed : Bytes → Bool

@@ -1,7 +1,7 @@
 -- Where one record more leads: its columns of the table are its spots, and the first of them that it may take is taken.
 -- Assumes nothing.
 use Prim.Native.Nat.{ℕ}
-use mathlib.Core.Path.{_≡_, refl, sym, ap, _∙_, subst}
+use mathlib.Core.Path.{_≡_, refl, sym, ap, _∙_}
 use mathlib.Core.Bool.{Bool, true, false, not, cond, _&&_, _||_}
 use mathlib.Core.Option.{Option, none, some}
 use mathlib.Core.List.{List, [], _∷_, _++_, map, map-append}
@@ -10,9 +10,9 @@ use borrow.Author.Tests.{eqb-true}
 use lib.ListN.{take}
 use Rattle.format.specs.Ascii.{ascii}
 use Rattle.format.specs.Bytes.{Bytes, sameBytes, every}
-use Rattle.format.specs.Table.{Class, detail, Row as FormatRow, row, classOf}
+use Rattle.format.specs.Table.{detail, Row as FormatRow, row}
 use Rattle.format.specs.Cwr22.{rows22, cwr22}
-use Rattle.format.specs.Checks.{is, cls}
+use Rattle.format.specs.Checks.{cls}
 use Rattle.format.specs.Stages.{Spot, spot, spots, begins, stages}
 use Rattle.rules.specs.Records.{only}
 use Rattle.rules.specs.Other.{is24}
@@ -20,7 +20,7 @@ use Rattle.rules.specs.Order.{mayTake, firstFit, taken, on, walk, nowhere, outs
 use Rattle.rules.proofs.Lists.{only-kept, only-left}
 use Rattle.kinds.specs.Rows.{codeRow, column, spotsOf, sortOf, rowFor}
 use Rattle.kinds.specs.declared.Row.{Row}
-use Rattle.kinds.proofs.Laws.{row-cases, stage-spots, alone-begins}
+use Rattle.kinds.proofs.Laws.{inClass, of-class, stage-spots, alone-begins}
 use Rattle.format.proofs.Tests.{by-cases}
 use Rattle.order.specs.declared.Order.{Order}
 use Rattle.order.specs.Standing.{standing}
@@ -41,26 +41,16 @@ same→eq false true e = e
 same→eq false false e = refl
 
 spotless : FormatRow → Bool
-spotless (row t n c) = not (is detail c) || same (eqb (codeRow (row t n c) .first) 0) (named24 t)
+spotless (row t n c) = same (eqb (codeRow (row t n c) .first) 0) (named24 t)
 
-all-spotless : every spotless rows22 ≡ true
+all-spotless : every (inClass detail spotless) rows22 ≡ true
 unfolding rows22 spotless same named24 spots begins stages sortOf
 all-spotless = refl
-
-or-second : (a b : Bool) → a ≡ true → (not a || b) ≡ true → b ≡ true
-or-second a b e h = rw e at h
 
 pub passed-over : (r : Bytes) → cls cwr22 r ≡ detail → eqb (rowFor (take 3 r) .first) 0 ≡ is24 r
 unfolding rowFor rows22 spotless named24 is24
 passed-over r d =
-    row-cases (λ (f : FormatRow). classOf f ≡ detail → eqb (codeRow f .first) 0 ≡ named24 (take 3 r)) spotless (take 3 r)
-    (λ n c e q. same→eq _ _ (or-second (is detail c) _ (rw q) e))
-    rows22 all-spotless
-    (λ none q. absurd (subst (λ (c : Class). NotDetail c) q tt))
-    d
-  where
-    NotDetail : Class → Type 0
-    NotDetail c = cond (is detail c) ⊥ (Unit {0})
+    of-class detail spotless all-spotless refl (λ (f : FormatRow). eqb (codeRow f .first) 0 ≡ named24 (take 3 r)) r d (λ n e. same→eq _ _ e)
 
 -- ---- one record more
 

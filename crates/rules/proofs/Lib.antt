@@ -8,3 +8,4 @@ pub mod Starred
 pub mod Made
 pub mod Examples
 pub mod Files
+pub mod Verdicts

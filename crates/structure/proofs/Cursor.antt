@@ -3,19 +3,20 @@
 use Prim.Native.Nat.{ℕ, _+_, _-_, _≤_, _<_}
 use native.Mathlib.Omega.{arith}
 use mathlib.Core.Path.{_≡_, sym, ap, _∙_, subst}
+use mathlib.Core.Bool.{true, false}
 use mathlib.Core.List.{List, [], _∷_}
 use lib.ListN.{length, take, drop, drop-of-length-le, length-drop}
 use lib.Seq.{take-all, take-take}
-use lib.Dec.{leb}
+use lib.Dec.{T, leb}
 use borrow.Author.Tests.{leb-true, leb-false}
 use Rattle.format.specs.Bytes.{Bytes}
-use Rattle.format.specs.Table.{Class, unknown}
+use Rattle.format.specs.Table.{Class, trl, unknown}
 use Rattle.format.specs.Cwr22.{cwr22}
 use Rattle.format.specs.Lines.{good, lines}
-use Rattle.format.specs.Checks.{check6, cls, mayFollow}
+use Rattle.format.specs.Checks.{is, check6, check7, cls, mayFollow}
 use Rattle.format.specs.Numbering.{recordsIn}
-use Rattle.format.proofs.Logic.{is-true}
-use Rattle.format.proofs.Passes.{Along}
+use Rattle.format.proofs.Logic.{is-T, is-true}
+use Rattle.format.proofs.Passes.{Along, AlongFrom}
 use Rattle.format.proofs.Answers.{Placed}
 use Rattle.kinds.specs.declared.Row.{Row}
 use Rattle.kinds.specs.Rows.{rowFor}
@@ -36,6 +37,19 @@ here-start f rs e p =
       typed = p .six;
       placed = p .seven;
     }
+
+-- ---- behind another class
+
+-- what may stand behind c may stand behind d
+like : (c d : Class) → is trl c ≡ false → ((e : Class) → mayFollow c e ≡ true → mayFollow d e ≡ true)
+    → (rs : List Bytes) → AlongFrom (check7 cwr22) c rs → AlongFrom (check7 cwr22) d rs
+like c d e more [] a = absurd (subst T e a)
+like c d e more (r ∷ rs) a = (is-T (mayFollow d (cls cwr22 r)) (more (cls cwr22 r) (is-true (mayFollow c (cls cwr22 r)) (a .0))), a .1)
+
+pub placed-like : {f : Bytes} {i : ℕ} {rs : List Bytes} (c d : Class) → is trl c ≡ false
+    → ((e : Class) → mayFollow c e ≡ true → mayFollow d e ≡ true) → Here f i c rs → Here f i d rs
+placed-like {rs = rs} c d e more h =
+    record { within = h .within; good = h .good; left = h .left; typed = h .typed; placed = like c d e more rs (h .placed) }
 
 -- ---- the end
 

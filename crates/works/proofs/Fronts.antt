@@ -3,7 +3,7 @@
 use Prim.Native.Nat.{ℕ, suc, _+_, _*_, _-_, _^_, _≤_, _<_}
 use native.Mathlib.Omega.{arith}
 use mathlib.Core.Path.{_≡_, refl, sym, ap, _∙_, subst}
-use mathlib.Core.Bool.{Bool, true, not, cond, _&&_, _||_}
+use mathlib.Core.Bool.{Bool, true, cond, false≢true, _&&_, _||_}
 use mathlib.Core.List.{List, [], _∷_, map}
 use lib.Dec.{eqb}
 use lib.ListN.{length, take, drop}
@@ -11,7 +11,7 @@ use borrow.Author.Tests.{eqb-true}
 use borrow.Rule.Slice.PartMut.{putMid}
 use Rattle.format.specs.Ascii.{ascii}
 use Rattle.format.specs.Bytes.{Bytes, sameBytes, every}
-use Rattle.format.specs.Table.{Class, head, Row as FormatRow, row, classOf, lenOf}
+use Rattle.format.specs.Table.{Class, head, Row as FormatRow, row, lenOf}
 use Rattle.format.specs.Cwr22.{rows22, cwr22}
 use Rattle.format.specs.Checks.{is, cls}
 use Rattle.format.specs.Structure.{firstOf}
@@ -23,7 +23,7 @@ use Rattle.rules.specs.Findings.{worst}
 use Rattle.rules.specs.Works.{headerFindings, detailsFrom, transactionFindings}
 use Rattle.rules.specs.Verdicts.{rejects, raised, transactionVerdicts}
 use Rattle.kinds.specs.Rows.{rowFor}
-use Rattle.kinds.proofs.Laws.{row-cases, length-len}
+use Rattle.kinds.proofs.Laws.{inClass, of-class, length-len}
 use Rattle.structure.specs.Cursor.{Here, First}
 use Rattle.structure.proofs.Cursor.{first as record-here}
 use Rattle.edits.specs.Kinds.{Header}
@@ -41,27 +41,21 @@ use Rattle.works.specs.Walk.{restAt, tailOf, frontOf, Room, Done, Transa
 -- ---- a header is NWR or REV, of 260 bytes
 
 heading : FormatRow → Bool
-heading (row t n c) = not (is head c) || (eqb n 260 && (sameBytes (ascii "NWR") t || sameBytes (ascii "REV") t))
+heading (row t n c) = eqb n 260 && (sameBytes (ascii "NWR") t || sameBytes (ascii "REV") t)
 
-all-heading : every heading rows22 ≡ true
+all-heading : every (inClass head heading) rows22 ≡ true
 unfolding rows22 heading
 all-heading = refl
 
-NotHead : Class → Type 0
-NotHead c = cond (is head c) ⊥ (Unit {0})
-
 head-is : (r : Bytes) → cls cwr22 r ≡ head → (cwr22 .len (take 3 r) ≡ 260) × (isHeader r ≡ true)
-unfolding rows22 heading NotHead
+unfolding rows22 heading
 head-is r h =
-    row-cases (λ (f : FormatRow). classOf f ≡ head → (lenOf f ≡ 260) × (isHeader r ≡ true)) heading (take 3 r)
-    (λ n c e q. let b = both (eqb n 260) (isHeader r) (subst (λ (k : Class). (not (is head k) || (eqb n 260 && isHeader r)) ≡ true) q e) in (eqb-true n 260 (b .0), b .1))
-    rows22 all-heading
-    (λ none q. absurd (subst NotHead q tt))
-    h
+    of-class head heading all-heading refl (λ (f : FormatRow). (lenOf f ≡ 260) × (isHeader r ≡ true)) r h
+    (λ n e. let b = both (eqb n 260) (isHeader r) e in (eqb-true n 260 (b .0), b .1))
 
 nothing-no-head : cls cwr22 [] ≡ head → ⊥
-unfolding rows22 NotHead
-nothing-no-head q = subst NotHead q tt
+unfolding rows22
+nothing-no-head q = false≢true (ap (is head) q)
 
 some-header : (rs : List Bytes) → cls cwr22 (firstOf rs) ≡ head → rs ≡ firstOf rs ∷ tailOf rs
 some-header [] e = absurd (nothing-no-head e)

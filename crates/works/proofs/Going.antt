@@ -8,12 +8,11 @@ use lib.ListN.{length, take, drop}
 use Rattle.format.specs.Bytes.{Bytes, All}
 use Rattle.format.specs.Table.{head, detail}
 use Rattle.format.specs.Cwr22.{cwr22}
-use Rattle.format.specs.Checks.{is, cls, code, classAt, check7}
+use Rattle.format.specs.Checks.{is, cls, code, classAt}
 use Rattle.format.specs.Structure.{mostRecords, firstOf}
 use Rattle.format.specs.Tree.{span, after, isDetail}
 use Rattle.format.proofs.Logic.{is-T}
 use Rattle.format.proofs.Tests.{by-cases}
-use Rattle.format.proofs.Passes.{AlongFrom}
 use Rattle.format.proofs.Tree.{is→eq}
 use Rattle.rules.specs.Tables.{Tables}
 use Rattle.rules.specs.Verdicts.{findingBytes}
@@ -36,12 +35,7 @@ use Rattle.buffers.proofs.Splice.{splice-nil}
 use Rattle.buffers.proofs.Entries.{kept-v, kept-f}
 use Rattle.works.specs.declared.Walk.{Walk}
 use Rattle.works.specs.Walk.{restAt, tailOf, Room, Gone, Done}
-use Rattle.works.proofs.Laws.{detail-here}
-
--- behind a header something stands
-some-record : (rs : List Bytes) → AlongFrom (check7 cwr22) head rs → rs ≡ firstOf rs ∷ tailOf rs
-some-record [] a = absurd a
-some-record (r ∷ rs) a = refl
+use Rattle.works.proofs.Laws.{detail-here, some-record}
 
 pub record Going (f s : Bytes) (start first : ℕ) (v₀ g₀ : Bytes) (c : Chains) (w : Walk) (v g : Bytes) (ds : List Bytes) : Type 0 where
   pub gone : (t : Tables) → t .societies ≡ s → Gone t f first ds (restAt f (w .at)) w v₀ g₀ v g
@@ -119,7 +113,7 @@ module _ (turn : Turn) where
 
   left : restAt f (w .at) ≡ r ∷ rs
   unfolding r rs
-  left = some-record (restAt f (w .at)) (there .here .placed)
+  left = some-record head refl (restAt f (w .at)) (there .here .placed)
 
   here : Here f (w .at) head (r ∷ rs)
   here = subst (Here f (w .at) head) left (there .here)
