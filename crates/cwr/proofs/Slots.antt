@@ -1,14 +1,11 @@
 -- Three parts of one list, filled one after the other, and each read back. Assumes nothing.
-use Prim.Native.Nat.{ℕ, suc, _+_, _≤_}
+use Prim.Native.Nat.{ℕ, _+_, _≤_}
 use native.Mathlib.Omega.{arith}
-use mathlib.Core.Path.{_≡_, refl, sym, ap, _∙_}
-use mathlib.Core.List.{List, [], _∷_, _++_, append-assoc}
-use lib.ListN.{length, take, drop, set, replicate, length-append, length-set, length-replicate}
+use mathlib.Core.Path.{_≡_, sym, ap, _∙_}
+use mathlib.Core.List.{List, _++_, append-assoc}
+use lib.ListN.{length, take, drop, length-append}
 use lib.Seq.{take-at, drop-at}
 use borrow.Rule.Slice.PartMut.{putMid}
-use Rattle.format.specs.Bytes.{Bytes}
-use Rattle.rules.specs.Tables.{entries}
-use Rattle.lookup.specs.Index.{slotOf, numbered, indexOf, Indexed}
 use Rattle.buffers.specs.Written.{splice}
 use Rattle.buffers.proofs.Splice.{part-splice, splice-on}
 use Rattle.cwr.proofs.Outcomes.{splice-front}
@@ -43,13 +40,3 @@ module _ (s x y z : List ℕ) (a : length x ≡ 4096) (b : length y ≡ 4096) (c
       ap (λ q. take 4096 (drop 8192 q)) (all ∙ sym (append-assoc x y (z ++ drop (length ((x ++ y) ++ z)) s)))
       ∙ ap (take 4096) (drop-at (x ++ y) _ 8192 two)
       ∙ take-at z _ 4096 c
-
--- ---- the index of a table fills its part
-
-length-numbered : (n : ℕ) (es : List Bytes) (slots : List ℕ) → length (numbered n es slots) ≡ length slots
-length-numbered n [] slots = refl
-length-numbered n (e ∷ es) slots = length-numbered (suc n) es (set slots (slotOf e) n) ∙ length-set slots (slotOf e) n
-
-pub indexed-long : (size : ℕ) (table : Bytes) (slots : List ℕ) → Indexed size table slots → length slots ≡ 4096
-unfolding Indexed indexOf
-indexed-long size table slots i = ap length i ∙ length-numbered 1 (entries size table) (replicate 4096 0) ∙ length-replicate {A = ℕ} 4096 0

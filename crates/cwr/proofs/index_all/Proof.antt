@@ -2,7 +2,8 @@
 use native.Mathlib.Omega.{arith}
 use mathlib.Core.Path.{_∙_}
 use borrow.Author.Needs.{needs}
-use Rattle.cwr.proofs.Slots.{first-part, second-part, third-part, indexed-long}
+use Rattle.lookup.proofs.Laws.{indexed-length}
+use Rattle.cwr.proofs.Slots.{first-part, second-part, third-part}
 use Rattle.cwr.proofs.index_all.Statement.{statement}
 use Rattle.cwr.proofs.index_all.Tie as tie
 
@@ -47,9 +48,9 @@ same-length c = search needs
 
 returns : tie.Need-returns
 returns c =
-    let a = indexed-long 2 _ _ (c .before .before .before .before .before .before .before .before .before .before .index .ensures) in
-    let b = indexed-long 3 _ _ (c .before .before .before .before .before .before .index2 .ensures) in
-    let d = indexed-long 3 _ _ (c .before .before .index3 .ensures) in
+    let a = indexed-length 2 _ _ (c .before .before .before .before .before .before .before .before .before .before .index .ensures) in
+    let b = indexed-length 3 _ _ (c .before .before .before .before .before .before .index2 .ensures) in
+    let d = indexed-length 3 _ _ (c .before .before .index3 .ensures) in
     record {
       long = same-length c ∙ c .before .before .before .before .before .before .before .before .before .before .before .before .before .before .before .before .pre .3;
       ofLanguages = rw (first-part (c .before .before .before .before .before .before .before .before .before .before .before .before .before .before .before .before .args .slots .now) _ _ _ a b d (omega (arith, c .before .before .before .before .before .before .before .before .before .before .before .before .before .before .before .before .pre .3))) (c .before .before .before .before .before .before .before .before .before .before .index .ensures);
