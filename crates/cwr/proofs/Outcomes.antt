@@ -12,7 +12,7 @@ use Rattle.format.specs.Table.{unknown}
 use Rattle.format.specs.Cwr22.{cwr22}
 use Rattle.format.specs.Structure.{Answer, refused, passed, mostBytes, judged, structure}
 use Rattle.format.specs.Numbering.{recordsIn}
-use Rattle.format.specs.Room.{leftIn}
+use Rattle.format.specs.Lent.{leftIn}
 use Rattle.format.proofs.Tests.{by-cases}
 use Rattle.format.proofs.Answers.{file-read, answer-judged}
 use Rattle.rules.specs.Tables.{Tables}

@@ -7,7 +7,7 @@ use borrow.Author.Tests.{not-true, not-false}
 use Rattle.format.specs.Bytes.{Bytes}
 use Rattle.format.specs.Cwr22.{cwr22}
 use Rattle.format.specs.Structure.{Answer, refused, passed, structure}
-use Rattle.format.specs.Room.{inRoom}
+use Rattle.format.specs.Lent.{inRoom}
 use Rattle.rules.specs.Tables.{Tables, rightTable}
 use Rattle.rules.specs.Values.{largestTolerance}
 use Rattle.rules.specs.Outcome.{enough, answer}

@@ -6,7 +6,7 @@ ghost use mathlib.Core.Path.{_≡_};
 ghost use mathlib.Core.Bool.{true};
 ghost use Prim.Native.Nat.{_≤_};
 ghost use lib.ListN.{length};
-ghost use Rattle.format.specs.Room.{inRoom};
+ghost use Rattle.format.specs.Lent.{inRoom};
 ghost use Rattle.format.specs.Structure.{mostBytes};
 ghost use Rattle.format.specs.Table.{unknown};
 ghost use Rattle.rules.specs.Tables.{languageSize, societySize, categorySize, rightTable};

@@ -12,10 +12,9 @@ use borrow.Author.Tests.{eqb-true}
 use Rattle.format.specs.Bytes.{Bytes, every}
 use Rattle.format.specs.Table.{Class, hdr, grh, head, detail, grt, trl, unknown, Row as FormatRow, row, lenOf}
 use Rattle.format.specs.Cwr22.{rows22, cwr22}
-use Rattle.format.specs.Checks.{is, cls, mayFollow, check7}
+use Rattle.format.specs.Checks.{is, cls, mayFollow, check7, AlongFrom}
 use Rattle.format.specs.Structure.{firstOf}
 use Rattle.format.proofs.Logic.{is-T, is-true}
-use Rattle.format.proofs.Passes.{AlongFrom}
 use Rattle.format.proofs.Tree.{is→eq}
 use Rattle.format.proofs.Tests.{both}
 use Rattle.kinds.specs.Rows.{rowFor}

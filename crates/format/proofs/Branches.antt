@@ -8,13 +8,13 @@ use Rattle.format.specs.Bytes.{Bytes, All}
 use Rattle.format.specs.Doc.{Doc, Group, Transaction, recordsT, transactionsOf, recordsOf, write}
 use Rattle.format.specs.Table.{Class, detail, grt, trl, unknown, Table}
 use Rattle.format.specs.WellFormed.{Item, item, itemsT, itemsG, items, WellFormed}
-use Rattle.format.specs.Checks.{cls, cut, check7}
+use Rattle.format.specs.Checks.{cls, cut, check7, AlongFrom, Along}
 use Rattle.format.specs.Tree.{span, after, lastOf, isDetail, isInside, transactionsIn, groupsIn, tree, recordsInT, recordsInG, leaves, cutT, cutG, numberless}
 use Rattle.format.specs.Numbering.{held}
 use Rattle.format.specs.Claims.{lengths, Grows}
 use Rattle.format.proofs.Logic.{All-append}
-use Rattle.format.proofs.Passes.{AlongFrom, Along, Places}
-use Rattle.format.proofs.Tree.{build, build-items, Tree, places-tree}
+use Rattle.format.proofs.Passes.{Places}
+use Rattle.format.proofs.Tree.{build, build-items, Shaped, places-tree}
 use Rattle.format.proofs.Demand3.{docOf, passes-accepted, accepted-content, passes-limits, content-passes}
 
 -- ---- spans
@@ -178,7 +178,7 @@ module _ (𝕋 : Table) where
   whole-places p (r ∷ rs) h = (h .0, whole-places (cls 𝕋 r) rs (h .1))
 
   module _ (rs : List Bytes) (placed : Along (check7 𝕋) rs) where
-    built : Tree (map whole rs) (build (map whole rs))
+    built : Shaped (map whole rs) (build (map whole rs))
     built = places-tree (map whole rs) (whole-places unknown rs placed)
 
     built-leaves : leaves (build (map whole rs)) ≡ rs
@@ -220,12 +220,12 @@ lengths-cut d = rw (length-map (d .groups) cutG, transactions-cutG (d .groups), 
 
 module _ (𝕋 : Table) where
   pub grows : Grows 𝕋
-  grows f rs g t n e p =
-      let a = passes-accepted 𝕋 f rs e g t n p in
+  grows f rs g m n e p =
+      let a = passes-accepted 𝕋 f rs e g m n p in
       let c = tree-content 𝕋 rs (a .in-place .seven) in
       let (w, b) = subst (λ (d : Doc). WellFormed 𝕋 d × (write d ≡ f)) (sym c) (accepted-content 𝕋 f rs e a) in
       record {
         same-leaves = tree-leaves 𝕋 rs (a .in-place .seven);
-        same-counts = sym (lengths-cut (tree 𝕋 rs)) ∙ sym (content-passes 𝕋 f (passes-limits 𝕋 f g t n p) (numberless (tree 𝕋 rs), w, b)) ∙ p;
+        same-counts = sym (lengths-cut (tree 𝕋 rs)) ∙ sym (content-passes 𝕋 f (passes-limits 𝕋 f g m n p) (numberless (tree 𝕋 rs), w, b)) ∙ p;
         content = (w, b);
       }

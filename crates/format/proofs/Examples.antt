@@ -1,17 +1,22 @@
 -- Worked examples in CWR 2.2: the definitions compute, and the theorems are not empty. Assumes nothing.
-use Prim.Native.Nat.{ℕ, zero, suc}
+use Prim.Native.Nat.{ℕ, zero, suc, _≤_, _<_}
 use mathlib.Core.Path.{_≡_, refl}
-use mathlib.Core.List.{[], _∷_, _++_, map}
+use mathlib.Core.List.{List, [], _∷_, _++_, map}
+use lib.ListN.{length}
+use lib.Dec.{leb, le→leb}
+use borrow.Author.Tests.{lt-leb}
 use Rattle.format.specs.Ascii.{ascii}
-use Rattle.format.specs.Bytes.{Bytes, isText, decimal, behind, put, unlines}
+use Rattle.format.specs.Bytes.{Bytes, All, Text, isText, decimal, inserted, put, unlines}
 use Rattle.format.specs.Fields.{fieldOf, areDigits, numberOf}
 use Rattle.format.specs.Doc.{Doc, prefixed, opened, closed, written, write}
 use Rattle.format.specs.Table.{start, width}
 use Rattle.format.specs.Cwr22.{cwr22, rows22, version22}
 use Rattle.format.specs.WellFormed.{Item, item, items}
 use Rattle.format.specs.Lines.{lines}
-use Rattle.format.specs.Structure.{refused, passed, judged, structure}
+use Rattle.format.specs.Structure.{refused, passed, mostBytes, mostRecords, judged, structure}
 use Rattle.format.specs.Numbering.{placed, numbering, numberedFile}
+use Rattle.format.proofs.Logic.{is-true}
+use Rattle.format.proofs.Lines.{lines-unlines}
 
 abbrev spaces : ℕ → Bytes
 spaces zero = []
@@ -50,7 +55,7 @@ docA =
     }
 
 unfoldable pub fileA : Bytes
-unfolding docA hdr nwr swr grh grt trl write written decimal behind
+unfolding docA hdr nwr swr grh grt trl write written decimal inserted
 fileA = write docA
 
 A-passes : structure cwr22 fileA ≡ passed 1 1 6
@@ -59,7 +64,7 @@ A-passes = refl
 
 -- file A with spaces at its number positions
 blanked : Item → Bytes
-unfolding behind
+unfolding inserted
 blanked (item c s) = put (start c) (spaces (width c)) s
 
 blankA : Bytes
@@ -67,7 +72,7 @@ unfolding blanked docA hdr nwr swr grh grt trl items
 blankA = unlines (map blanked (items docA))
 
 A-numbered : (numbering cwr22 blankA ≡ passed 1 1 6) × (numberedFile cwr22 blankA ≡ fileA)
-unfolding blankA fileA numbering numberedFile placed lines isText decimal behind rows22 version22 fieldOf areDigits numberOf
+unfolding blankA fileA numbering numberedFile placed lines isText decimal inserted rows22 version22 fieldOf areDigits numberOf
 A-numbered = (refl, refl)
 
 blank-refused : structure cwr22 blankA ≡ refused 8 1
@@ -77,6 +82,20 @@ blank-refused = refl
 empty-refused : structure cwr22 [] ≡ refused 7 0
 unfolding structure judged lines
 empty-refused = refl
+
+-- ---- refusals 3 and 5, of any file and any records
+
+too-long : (f : Bytes) → mostBytes < length f → (structure cwr22 f ≡ refused 3 0) × (numbering cwr22 f ≡ refused 3 0)
+unfolding structure numbering
+too-long f h = let over = lt-leb (length f) mostBytes h in (rw over, rw over)
+
+too-many : (rs : List Bytes) → All Text rs → length (unlines rs) ≤ mostBytes → mostRecords < length rs
+    → (structure cwr22 (unlines rs) ≡ refused 5 131072) × (numbering cwr22 (unlines rs) ≡ refused 5 131072)
+unfolding structure numbering
+too-many rs h short many =
+    let within = is-true (leb (length (unlines rs)) mostBytes) (le→leb (length (unlines rs)) mostBytes short) in
+    let over = lt-leb (length rs) mostRecords many in
+    (rw (within, lines-unlines rs h, over), rw (within, lines-unlines rs h, over))
 
 -- ---- refusal 4 at the number of pairs before the fault; an empty line is a record, and is refused by 6
 
@@ -120,7 +139,7 @@ then-place = refl
 -- ---- refusals 8, 9 and 10: file A with one number wrong, and with another version
 
 withNumbers : ℕ → ℕ → ℕ → ℕ → ℕ → ℕ → Bytes → Bytes
-unfolding grh nwr swr grt trl decimal behind
+unfolding grh nwr swr grt trl decimal inserted
 withNumbers g t k h n m first =
     unlines (first ∷ opened g grh ∷ prefixed t 0 nwr ∷ prefixed t k swr ∷ closed h 1 n grt ∷ closed 1 1 m trl ∷ [])
 

@@ -9,7 +9,7 @@ use lib.Dec.{T}
 use Rattle.format.specs.Doc.{Doc, write, written}
 use Rattle.format.specs.Table.{Class, hdr, grh, head, detail, grt, trl, unknown, Table}
 use Rattle.format.specs.WellFormed.{Item, item, items, WellFormed}
-use Rattle.format.specs.Checks.{Counts, zeros, count, mayFollow}
+use Rattle.format.specs.Checks.{Counts, noneCounted, count, mayFollow}
 use Rattle.format.specs.Numbering.{held}
 use Rattle.format.specs.Structure.{mostRecords}
 use Rattle.format.specs.Claims.{Limits, Fit, AllFit, Fits}
@@ -93,4 +93,4 @@ module _ (𝕋 : Table) where
 
   pub fits : Fits 𝕋
   fits d w l =
-      fit-from unknown zeros (items d) (tree-places d (w .some-groups) (w .some-transactions)) refl (omega arith) (omega (arith, items-pairs d w l))
+      fit-from unknown noneCounted (items d) (tree-places d (w .some-groups) (w .some-transactions)) refl (omega arith) (omega (arith, items-pairs d w l))

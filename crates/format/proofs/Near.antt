@@ -10,7 +10,7 @@ use lib.Dec.{eqb, leb, leb→le}
 use Rattle.format.specs.Bytes.{Bytes, isText}
 use Rattle.format.specs.Table.{Class, hdr, grh, head, detail, grt, trl, unknown, Table}
 use Rattle.format.specs.Lines.{Reading, text, cr, fault, byte, readFrom, ended, Lines, good, bad, lines}
-use Rattle.format.specs.Checks.{Check, faultFrom, faultOf, Counts, zeros, count, cls, check6, check7, check8, check9, countFrom}
+use Rattle.format.specs.Checks.{Check, faultFrom, faultOf, Counts, noneCounted, count, cls, check6, check7, check8, check9, countFrom}
 use Rattle.format.specs.Structure.{Answer, refusal, unless, mostBytes, mostRecords, firstOf, ofLines, ofFile, versioned, judged, structure}
 use Rattle.format.specs.Numbering.{placed, numbering}
 use Rattle.format.specs.Claims.{Near, Nearby}
@@ -98,7 +98,7 @@ module _ (𝕋 : Table) where
 
     versioned-near : Near (versioned 𝕋 rs)
     versioned-near =
-        near 10 (unless (𝕋 .version (firstOf rs)) 0) _ (unless-within (𝕋 .version (firstOf rs)) 0 (omega arith)) (omega (arith, count-all zeros rs))
+        near 10 (unless (𝕋 .version (firstOf rs)) 0) _ (unless-within (𝕋 .version (firstOf rs)) 0 (omega arith)) (omega (arith, count-all noneCounted rs))
 
     judged-near : Near (judged 𝕋 rs)
     unfolding judged

@@ -2,7 +2,7 @@
 use Prim.Native.Nat.{ℕ}
 use mathlib.Core.Path.{_≡_, refl, sym, ap, _∙_, subst}
 use mathlib.Core.Logic.{_↔_}
-use mathlib.Core.List.{List}
+use mathlib.Core.List.{List, map}
 use lib.ListN.{length, length-map}
 use Rattle.format.specs.Bytes.{Bytes, pairs}
 use Rattle.format.specs.Doc.{Doc, write, written}
@@ -10,8 +10,8 @@ use Rattle.format.specs.Table.{Table}
 use Rattle.format.specs.WellFormed.{Loose, items, WellFormed}
 use Rattle.format.specs.Lines.{good, lines}
 use Rattle.format.specs.Structure.{passed, structure}
-use Rattle.format.specs.Numbering.{held, placed, numbering, numberedFile}
-use Rattle.format.specs.Claims.{Limits, lengths, Unnumbered, Fillable, Numbered, Numbers}
+use Rattle.format.specs.Numbering.{recordsIn, held, placed, numbering, numberedFile}
+use Rattle.format.specs.Claims.{Limits, lengths, Unnumbered, Fillable, Numberable, Numbers}
 use Rattle.format.proofs.Lines.{lines-good, lines-pairs}
 use Rattle.format.proofs.Passes.{loose-held, same-length, records-loose}
 use Rattle.format.proofs.Answers.{Read, file-judged, file-read, placed-answer, answer-placed}
@@ -53,15 +53,15 @@ module _ (𝕋 : Table) where
 
   -- ---- a file that is numbered has some content
 
-  read : (f : Bytes) (g t n : ℕ) → numbering 𝕋 f ≡ passed g t n → Read (placed 𝕋) f g t n
+  read : (f : Bytes) (g m n : ℕ) → numbering 𝕋 f ≡ passed g m n → Read (placed 𝕋) f g m n
   unfolding numbering
-  read f g t n e = file-read (placed 𝕋) f g t n e
+  read f g m n e = file-read (placed 𝕋) f g m n e
 
-  content : (f : Bytes) (g t n : ℕ) → numbering 𝕋 f ≡ passed g t n → Fillable 𝕋 f
-  content f g t n e =
-      let r = read f g t n e in
+  content : (f : Bytes) (g m n : ℕ) → numbering 𝕋 f ≡ passed g m n → Fillable 𝕋 f
+  content f g m n e =
+      let r = read f g m n e in
       let h = lines-good f (r .rs) (r .is-lines) in
-      let p = answer-placed 𝕋 (r .rs) g t n (r .is-judged) in
+      let p = answer-placed 𝕋 (r .rs) g m n (r .is-judged) in
       let l = subst (λ ss. Loose ss (r .rs)) (sym (records-tree 𝕋 (r .rs) p .same)) (records-loose 𝕋 (r .rs) (h .1) (p .six)) in
       (docOf 𝕋 (r .rs), records-wellformed 𝕋 (r .rs) (h .1) p, (r .rs, l, h .0))
 
@@ -74,9 +74,9 @@ module _ (𝕋 : Table) where
   same-records : (f : Bytes) (a b : List Bytes) → lines f ≡ good a → lines f ≡ good b → a ≡ b
   same-records f a b p q = cc
 
-  exactly : (f : Bytes) → Numbered 𝕋 f ↔ (Limits f × Fillable 𝕋 f)
+  exactly : (f : Bytes) → Numberable 𝕋 f ↔ (Limits f × Fillable 𝕋 f)
   exactly f = (
-    λ (g, t, n, e). (read f g t n e .limits, content f g t n e),
+    λ (g, m, n, e). (read f g m n e .limits, content f g m n e),
     λ (l, c). (_, _, _, answers f (c .0) (c .1) (c .2) l),
   )
 
@@ -86,19 +86,26 @@ module _ (𝕋 : Table) where
       ∙ ap (docOf 𝕋) (same-records f (p .0) (q .0) (is-lines f d v p) (is-lines f e w q))
       ∙ content-found f e w q
 
-  else-same : (f : Bytes) → Numbered 𝕋 f → (d : Doc) × Unnumbered d f × Unnumbered d (numberedFile 𝕋 f)
-  else-same f (g, t, n, e) = let (d, w, u) = content f g t n e in (d, u, rw (bytes f d w u) (written-unnumbered d w))
+  else-same : (f : Bytes) → Numberable 𝕋 f → (d : Doc) × WellFormed 𝕋 d × Unnumbered d f × Unnumbered d (numberedFile 𝕋 f)
+  else-same f (g, m, n, e) = let (d, w, u) = content f g m n e in (d, w, u, rw (bytes f d w u) (written-unnumbered d w))
 
-  passes : (f : Bytes) (g t n : ℕ) → numbering 𝕋 f ≡ passed g t n → structure 𝕋 (numberedFile 𝕋 f) ≡ passed g t n
-  passes f g t n e =
-      let (d, w, u) = content f g t n e in
-      let l = read f g t n e .limits in
+  -- whatever stands in the number positions, the records of a content are its held ones
+  held-records : (f : Bytes) (d : Doc) → WellFormed 𝕋 d → Unnumbered d f → map (held 𝕋) (recordsIn (lines f)) ≡ items d
+  held-records f d w u = rw (is-lines f d w u) (loose-held 𝕋 (items d) (u .0) (w .right) (u .1))
+
+  outside : (f : Bytes) → Numberable 𝕋 f → map (held 𝕋) (recordsIn (lines (numberedFile 𝕋 f))) ≡ map (held 𝕋) (recordsIn (lines f))
+  outside f p = let (d, w, u, v) = else-same f p in held-records (numberedFile 𝕋 f) d w v ∙ sym (held-records f d w u)
+
+  passes : (f : Bytes) (g m n : ℕ) → numbering 𝕋 f ≡ passed g m n → structure 𝕋 (numberedFile 𝕋 f) ≡ passed g m n
+  passes f g m n e =
+      let (d, w, u) = content f g m n e in
+      let l = read f g m n e .limits in
       rw (bytes f d w u) (write-passes 𝕋 d w (rw (as-long f d w u) (l .0), rw (as-many f d w u) (l .1)) ∙ sym (answers f d w u l) ∙ e)
 
-  same : (f : Bytes) (g t n : ℕ) → structure 𝕋 f ≡ passed g t n → (numbering 𝕋 f ≡ passed g t n) × (numberedFile 𝕋 f ≡ f)
-  same f g t n e =
-      let (d, w, q) = passes-content 𝕋 f g t n e in
-      let l = passes-limits 𝕋 f g t n e in
+  same : (f : Bytes) (g m n : ℕ) → structure 𝕋 f ≡ passed g m n → (numbering 𝕋 f ≡ passed g m n) × (numberedFile 𝕋 f ≡ f)
+  same f g m n e =
+      let (d, w, q) = passes-content 𝕋 f g m n e in
+      let l = passes-limits 𝕋 f g m n e in
       let u = subst (Unnumbered d) q (written-unnumbered d w) in
       (answers f d w u l ∙ sym (content-passes 𝕋 f l (d, w, q)) ∙ e, bytes f d w u ∙ q)
 
@@ -109,8 +116,9 @@ module _ (𝕋 : Table) where
         only = only;
         writes = λ f d l w u. (answers f d w u l, bytes f d w u);
         else-same = else-same;
+        outside = outside;
         as-long = λ f p. let (d, w, u) = content f (p .0) (p .1) (p .2) (p .3) in ap length (bytes f d w u) ∙ as-long f d w u;
         passes = passes;
         same = same;
-        twice = λ f g t n e. same (numberedFile 𝕋 f) g t n (passes f g t n e);
+        twice = λ f g m n e. same (numberedFile 𝕋 f) g m n (passes f g m n e);
       }

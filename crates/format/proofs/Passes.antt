@@ -7,22 +7,15 @@ use mathlib.Core.Option.{Option, none, some}
 use mathlib.Core.List.{List, [], _∷_, map}
 use lib.ListN.{length, take, length-append}
 use lib.Dec.{T}
-use Rattle.format.specs.Bytes.{Bytes, All, Text, behind, unlines}
+use Rattle.format.specs.Bytes.{Bytes, All, Text, inserted, unlines}
 use Rattle.format.specs.Table.{Class, trl, at, width, Table}
 use Rattle.format.specs.WellFormed.{Item, item, Right, Held, Loose}
-use Rattle.format.specs.Checks.{Check, faultFrom, Counts, count, expected, is, mayFollow, closes, slot, cls, typed, numbered, check6, check7, check8, check9, ok8, ok9, counting, countFrom}
+use Rattle.format.specs.Checks.{Check, faultFrom, Along, AlongFrom, Counts, count, expected, is, mayFollow, closes, slot, cls, typed, rightlyNumbered, check6, check7, check8, check9, ok8, ok9, counting, countFrom}
 use Rattle.format.specs.Numbering.{held, number}
 use Rattle.format.proofs.Logic.{or-right, either-way, sameBytes→eq, sameBytes-refl}
 use Rattle.format.proofs.Slots.{expected-length, expected-text, put-cls, put-slot, put-held, put-length, put-typed, put-text, held-right, slot-text, slot-length, slot-put}
 
 -- ---- a check finds no fault exactly where no record fails
-
-abbrev pub AlongFrom : (K : Check) → K .State → List Bytes → Type 0
-AlongFrom K s [] = T (K .end s)
-AlongFrom K s (r ∷ rs) = T (K .ok s r) × AlongFrom K (K .next s r) rs
-
-abbrev pub Along : Check → List Bytes → Type 0
-Along K rs = AlongFrom K (K .begin) rs
 
 cond-none : (b : Bool) (o : Option ℕ) (i : ℕ) → cond b o (some i) ≡ none → T b × (o ≡ none)
 cond-none true o i e = (tt, e)
@@ -69,7 +62,7 @@ module _ (𝕋 : Table) where
       rw (← e, put-held 𝕋 c s x (h .0) n, loose-held ss rs (h .1) (l .1))
 
   -- what holds of every held record with text put into it holds of each of the records
-  module _ (P : Bytes → Type 0) (k : (c : Class) (s x : Bytes) → Right 𝕋 c s → Text x → length x ≡ width c → P (behind (at c) x s)) where
+  module _ (P : Bytes → Type 0) (k : (c : Class) (s x : Bytes) → Right 𝕋 c s → Text x → length x ≡ width c → P (inserted (at c) x s)) where
     loose-all : (ss : List Item) (rs : List Bytes) → All (Held 𝕋) ss → Loose ss rs → All P rs
     loose-all [] [] h l = tt
     loose-all [] (r ∷ rs) h l = absurd l
@@ -106,22 +99,22 @@ module _ (𝕋 : Table) where
   -- ---- the numbered records are such records, and their numbers are the expected ones
 
   -- a test of the records' numbers that asks no more than that they are the expected ones
-  number-ok : (ok : Counts → Bytes → Bool) → ((n : Counts) (r : Bytes) → T (numbered 𝕋 n r) → T (ok n r))
+  number-ok : (ok : Counts → Bytes → Bool) → ((n : Counts) (r : Bytes) → T (rightlyNumbered 𝕋 n r) → T (ok n r))
       → (n : Counts) (ss : List Item) → All (Held 𝕋) ss → AlongFrom (counting 𝕋 ok) n (number n ss)
   number-ok ok w n [] h = tt
   number-ok ok w n (item c s ∷ ss) h = (
-    w n (behind (at c) (expected n c) s) (rw (cl, put-slot 𝕋 c s (expected n c) (h .0) (expected-length n c)) (sameBytes-refl (expected n c))),
+    w n (inserted (at c) (expected n c) s) (rw (cl, put-slot 𝕋 c s (expected n c) (h .0) (expected-length n c)) (sameBytes-refl (expected n c))),
     rw cl (number-ok ok w (count n c) ss (h .1)),
   )
     where
-      cl : cls 𝕋 (behind (at c) (expected n c) s) ≡ c
+      cl : cls 𝕋 (inserted (at c) (expected n c) s) ≡ c
       cl = put-cls 𝕋 c s (expected n c) (h .0) (expected-length n c)
 
   pub number-ok8 : (n : Counts) (ss : List Item) → All (Held 𝕋) ss → AlongFrom (check8 𝕋) n (number n ss)
-  number-ok8 = number-ok (ok8 𝕋) (λ n r. or-right (closes (cls 𝕋 r)) (numbered 𝕋 n r))
+  number-ok8 = number-ok (ok8 𝕋) (λ n r. or-right (closes (cls 𝕋 r)) (rightlyNumbered 𝕋 n r))
 
   pub number-ok9 : (n : Counts) (ss : List Item) → All (Held 𝕋) ss → AlongFrom (check9 𝕋) n (number n ss)
-  number-ok9 = number-ok (ok9 𝕋) (λ n r. or-right (not (closes (cls 𝕋 r))) (numbered 𝕋 n r))
+  number-ok9 = number-ok (ok9 𝕋) (λ n r. or-right (not (closes (cls 𝕋 r))) (rightlyNumbered 𝕋 n r))
 
   -- ---- from the file's records to held records
 
@@ -141,7 +134,7 @@ module _ (𝕋 : Table) where
       rw (records-numbered (count n (cls 𝕋 r)) rs (h .1) (t .1) (p .1) (q .1), ← same, slot-put 𝕋 r (h .0) (t .0))
     where
       same : slot (cls 𝕋 r) r ≡ expected n (cls 𝕋 r)
-      same = sameBytes→eq (slot (cls 𝕋 r) r) (expected n (cls 𝕋 r)) (either-way (closes (cls 𝕋 r)) (numbered 𝕋 n r) (p .0) (q .0))
+      same = sameBytes→eq (slot (cls 𝕋 r) r) (expected n (cls 𝕋 r)) (either-way (closes (cls 𝕋 r)) (rightlyNumbered 𝕋 n r) (p .0) (q .0))
 
   -- ---- places and counts are those of the held records
 

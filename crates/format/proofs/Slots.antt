@@ -6,7 +6,7 @@ use mathlib.Core.List.{[], _++_, append-assoc, append-nil}
 use lib.ListN.{length, take, drop, length-append, length-drop, take-append-drop}
 use lib.Seq.{length-take-le, take-at, drop-at, take-take, take-append-le, take-add}
 use lib.Dec.{T, eqb, eqb→eq, eqb-refl, lit≤}
-use Rattle.format.specs.Bytes.{Bytes, isText, Text, behind, decimal}
+use Rattle.format.specs.Bytes.{Bytes, isText, Text, inserted, decimal}
 use Rattle.format.specs.Table.{Class, hdr, grh, head, detail, grt, trl, unknown, known, at, width, Table}
 use Rattle.format.specs.WellFormed.{item, Right, Held}
 use Rattle.format.specs.Checks.{Counts, expected, slot, cut, cls, typed}
@@ -21,41 +21,41 @@ front-type : (a : ℕ) (s y : Bytes) → a ≤ length s → 3 ≤ a → take 3 (
 front-type a s y h k = take-append-le 3 (take a s) y (rw (length-take-le a s h) k) ∙ take-take 3 a s k
 
 module _ (a : ℕ) (x s : Bytes) (h : a ≤ length s) where
-  length-behind : length (behind a x s) ≡ length x + length s
-  unfolding behind
-  length-behind = simp (length-append, length-take-le a s h, length-drop) (omega arith)
+  length-inserted : length (inserted a x s) ≡ length x + length s
+  unfolding inserted
+  length-inserted = simp (length-append, length-take-le a s h, length-drop) (omega arith)
 
-  behind-front : take a (behind a x s) ≡ take a s
-  unfolding behind
-  behind-front = rw append-assoc (take-at (take a s) (x ++ drop a s) a (length-take-le a s h))
+  inserted-front : take a (inserted a x s) ≡ take a s
+  unfolding inserted
+  inserted-front = rw append-assoc (take-at (take a s) (x ++ drop a s) a (length-take-le a s h))
 
-  behind-middle : take (length x) (drop a (behind a x s)) ≡ x
-  unfolding behind
-  behind-middle = rw (append-assoc, drop-at (take a s) (x ++ drop a s) a (length-take-le a s h)) (take-at x (drop a s) (length x) refl)
+  inserted-middle : take (length x) (drop a (inserted a x s)) ≡ x
+  unfolding inserted
+  inserted-middle = rw (append-assoc, drop-at (take a s) (x ++ drop a s) a (length-take-le a s h)) (take-at x (drop a s) (length x) refl)
 
-  behind-back : drop (a + length x) (behind a x s) ≡ drop a s
-  unfolding behind
-  behind-back = drop-at (take a s ++ x) (drop a s) (a + length x) (length-append (take a s) x ∙ rw (length-take-le a s h))
+  inserted-back : drop (a + length x) (inserted a x s) ≡ drop a s
+  unfolding inserted
+  inserted-back = drop-at (take a s ++ x) (drop a s) (a + length x) (length-append (take a s) x ∙ rw (length-take-le a s h))
 
-  behind-type : 3 ≤ a → take 3 (behind a x s) ≡ take 3 s
-  unfolding behind
-  behind-type k = rw append-assoc (front-type a s (x ++ drop a s) h k)
+  inserted-type : 3 ≤ a → take 3 (inserted a x s) ≡ take 3 s
+  unfolding inserted
+  inserted-type k = rw append-assoc (front-type a s (x ++ drop a s) h k)
 
 -- a record is what is left of it with its numbers put back
-refill : (a w : ℕ) (r : Bytes) → a + w ≤ length r → behind a (take w (drop a r)) (take a r ++ drop (a + w) r) ≡ r
-unfolding behind
+refill : (a w : ℕ) (r : Bytes) → a + w ≤ length r → inserted a (take w (drop a r)) (take a r ++ drop (a + w) r) ≡ r
+unfolding inserted
 refill a w r h =
     rw (take-at (take a r) (drop (a + w) r) a (length-take-le a r (omega arith)), drop-at (take a r) (drop (a + w) r) a (length-take-le a r (omega arith)), ← take-add a w r, take-append-drop)
 
 -- numbers put into a record whose own were cut out: the record with its number positions overwritten
-pub overwritten : (a w : ℕ) (x r : Bytes) → a ≤ length r → behind a x (take a r ++ drop (a + w) r) ≡ take a r ++ x ++ drop (a + w) r
-unfolding behind
+pub overwritten : (a w : ℕ) (x r : Bytes) → a ≤ length r → inserted a x (take a r ++ drop (a + w) r) ≡ take a r ++ x ++ drop (a + w) r
+unfolding inserted
 overwritten a w x r h =
     rw (take-at (take a r) (drop (a + w) r) a (length-take-le a r h), drop-at (take a r) (drop (a + w) r) a (length-take-le a r h))
 
-pub behind-nothing : (a : ℕ) (s : Bytes) → behind a [] s ≡ s
-unfolding behind
-behind-nothing a s = rw (append-nil, take-append-drop)
+pub inserted-nothing : (a : ℕ) (s : Bytes) → inserted a [] s ≡ s
+unfolding inserted
+inserted-nothing a s = rw (append-nil, take-append-drop)
 
 -- ---- at the place and width of a class
 
@@ -106,32 +106,32 @@ module _ (𝕋 : Table) where
   module _ (c : Class) (s x : Bytes) (R : Right 𝕋 c s) (l : length x ≡ width c) where
     fits : at c ≤ length s
     fits =
-        let m : at c + width c ≤ 𝕋 .len (take 3 s) = rw (R .type) at (𝕋 .room (take 3 s) (rw (R .type) (R .type-known))) in
+        let m : at c + width c ≤ 𝕋 .len (take 3 s) = rw (R .type) at (𝕋 .inside (take 3 s) (rw (R .type) (R .type-known))) in
         omega (arith, R .size)
 
-    pub put-cls : cls 𝕋 (behind (at c) x s) ≡ c
-    put-cls = ap (𝕋 .class) (behind-type (at c) x s fits (three c)) ∙ R .type
+    pub put-cls : cls 𝕋 (inserted (at c) x s) ≡ c
+    put-cls = ap (𝕋 .class) (inserted-type (at c) x s fits (three c)) ∙ R .type
 
-    pub put-slot : slot c (behind (at c) x s) ≡ x
-    put-slot = rw (← l) (behind-middle (at c) x s fits)
+    pub put-slot : slot c (inserted (at c) x s) ≡ x
+    put-slot = rw (← l) (inserted-middle (at c) x s fits)
 
-    put-cut : cut c (behind (at c) x s) ≡ s
-    put-cut = rw (behind-front (at c) x s fits, ← l, behind-back (at c) x s fits, take-append-drop)
+    put-cut : cut c (inserted (at c) x s) ≡ s
+    put-cut = rw (inserted-front (at c) x s fits, ← l, inserted-back (at c) x s fits, take-append-drop)
 
-    pub put-held : held 𝕋 (behind (at c) x s) ≡ item c s
+    pub put-held : held 𝕋 (inserted (at c) x s) ≡ item c s
     put-held = rw (put-cls, put-cut)
 
-    pub put-length : length (behind (at c) x s) ≡ 𝕋 .len (take 3 s)
-    put-length = length-behind (at c) x s fits ∙ rw (← R .size, l) (omega arith)
+    pub put-length : length (inserted (at c) x s) ≡ 𝕋 .len (take 3 s)
+    put-length = length-inserted (at c) x s fits ∙ rw (← R .size, l) (omega arith)
 
-    pub put-typed : T (typed 𝕋 (behind (at c) x s))
+    pub put-typed : T (typed 𝕋 (inserted (at c) x s))
     put-typed =
-        both (known (cls 𝕋 (behind (at c) x s))) (eqb (length (behind (at c) x s)) (𝕋 .len (take 3 (behind (at c) x s))))
+        both (known (cls 𝕋 (inserted (at c) x s))) (eqb (length (inserted (at c) x s)) (𝕋 .len (take 3 (inserted (at c) x s))))
         (rw put-cls (R .type-known))
-        (rw (put-length, behind-type (at c) x s fits (three c)) (eqb-refl (𝕋 .len (take 3 s))))
+        (rw (put-length, inserted-type (at c) x s fits (three c)) (eqb-refl (𝕋 .len (take 3 s))))
 
-    pub put-text : Text x → Text (behind (at c) x s)
-    unfolding behind
+    pub put-text : Text x → Text (inserted (at c) x s)
+    unfolding inserted
     put-text h =
         text-append (take (at c) s ++ x) (drop (at c) s)
         (text-append (take (at c) s) x (All-take (λ b. T (isText b)) (at c) s (R .text)) h)
@@ -143,7 +143,7 @@ module _ (𝕋 : Table) where
     long = eqb→eq (length r) (𝕋 .len (take 3 r)) (right (known (cls 𝕋 r)) (eqb (length r) (𝕋 .len (take 3 r))) t)
 
     whole : at (cls 𝕋 r) + width (cls 𝕋 r) ≤ length r
-    whole = omega (arith, 𝕋 .room (take 3 r) (left (known (cls 𝕋 r)) (eqb (length r) (𝕋 .len (take 3 r))) t), long)
+    whole = omega (arith, 𝕋 .inside (take 3 r) (left (known (cls 𝕋 r)) (eqb (length r) (𝕋 .len (take 3 r))) t), long)
 
     pub held-right : Held 𝕋 (held 𝕋 r)
     held-right =
@@ -163,5 +163,5 @@ module _ (𝕋 : Table) where
     pub slot-text : Text (slot (cls 𝕋 r) r)
     slot-text = All-take (λ b. T (isText b)) (width (cls 𝕋 r)) (drop (at (cls 𝕋 r)) r) (All-drop (λ b. T (isText b)) (at (cls 𝕋 r)) r h)
 
-    pub slot-put : behind (at (cls 𝕋 r)) (slot (cls 𝕋 r) r) (cut (cls 𝕋 r) r) ≡ r
+    pub slot-put : inserted (at (cls 𝕋 r)) (slot (cls 𝕋 r) r) (cut (cls 𝕋 r) r) ≡ r
     slot-put = refill (at (cls 𝕋 r)) (width (cls 𝕋 r)) r whole

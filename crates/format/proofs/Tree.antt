@@ -150,18 +150,18 @@ behind trl [] h = refl
 behind unknown [] h = tt
 behind p (item c s ∷ ss) h = joins p c s (back ss) ss (h .0) (behind c ss (h .1))
 
-pub record Tree (ss : List Item) (d : Doc) : Type 0 where
+pub record Shaped (ss : List Item) (d : Doc) : Type 0 where
   pub same : items d ≡ ss
   pub some-groups : NotEmpty (d .groups)
   pub some-transactions : All (λ (g : Group). NotEmpty (g .transactions)) (d .groups)
 
-pub places-tree : (ss : List Item) → Places unknown ss → Tree ss (build ss)
+pub places-tree : (ss : List Item) → Places unknown ss → Shaped ss (build ss)
 unfolding items
 places-tree [] h = absurd h
 places-tree (item c s ∷ ss) h =
-    by-one (λ e. Places e ss → Tree (item e s ∷ ss) (under s (back ss))) hdr c (h .0) (λ k. go (back ss) (behind hdr ss k)) (h .1)
+    by-one (λ e. Places e ss → Shaped (item e s ∷ ss) (under s (back ss))) hdr c (h .0) (λ k. go (back ss) (behind hdr ss k)) (h .1)
   where
-    go : (b : Tail) → Ok hdr b ss → Tree (item hdr s ∷ ss) (under s b)
+    go : (b : Tail) → Ok hdr b ss → Shaped (item hdr s ∷ ss) (under s b)
     go (tail ds ts t gs z) k = record { same = rw (k .0); some-groups = k .1; some-transactions = k .2 }
 
 -- ---- a tree's list has right places

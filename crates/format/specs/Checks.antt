@@ -4,7 +4,7 @@ use mathlib.Core.Bool.{Bool, true, false, cond, _&&_, _||_, not}
 use mathlib.Core.Option.{Option, none, some}
 use mathlib.Core.List.{List, [], _∷_, _++_}
 use lib.ListN.{length, take, drop, getD}
-use lib.Dec.{eqb}
+use lib.Dec.{T, eqb}
 use Rattle.format.specs.Bytes.{Bytes, sameBytes, decimal}
 use Rattle.format.specs.Table.{Class, hdr, grh, head, detail, grt, trl, unknown, known, at, width, Table}
 
@@ -23,6 +23,14 @@ faultFrom K s i (r ∷ rs) = cond (K .ok s r) (faultFrom K (K .next s r) (suc i)
 
 abbrev pub faultOf : Check → List Bytes → Option ℕ
 faultOf K rs = faultFrom K (K .begin) 0 rs
+
+-- no record fails, and the end does not
+abbrev pub AlongFrom : (K : Check) → K .State → List Bytes → Type 0
+AlongFrom K s [] = T (K .end s)
+AlongFrom K s (r ∷ rs) = T (K .ok s r) × AlongFrom K (K .next s r) rs
+
+abbrev pub Along : Check → List Bytes → Type 0
+Along K rs = AlongFrom K (K .begin) rs
 
 -- ---- places (7)
 
@@ -68,61 +76,25 @@ pub record Counts : Type 0 where
   -- all records
   pub records : ℕ
 
-abbrev pub zeros : Counts
-zeros = record { groups = 0; transactions = 0; inGroup = 0; groupRecords = 0; inTransaction = 0; records = 0 }
+-- before the first record
+abbrev pub noneCounted : Counts
+noneCounted = record { groups = 0; transactions = 0; inGroup = 0; groupRecords = 0; inTransaction = 0; records = 0 }
 
--- a record that begins and ends nothing
-abbrev pub one : Counts → Counts
-one n =
-    record {
-      groups = n .groups;
-      transactions = n .transactions;
-      inGroup = n .inGroup;
-      groupRecords = n .groupRecords;
-      inTransaction = n .inTransaction;
-      records = suc (n .records);
-    }
+-- one more where it holds
+abbrev pub moreIf : Bool → ℕ → ℕ
+moreIf b n = cond b (suc n) n
 
+-- with one record more, of that class: GRH begins a group, a header begins a transaction
 abbrev pub count : Counts → Class → Counts
-count n hdr = one n
-count n grh =
+count n c =
     record {
-      groups = suc (n .groups);
-      transactions = n .transactions;
-      inGroup = 0;
-      groupRecords = 1;
-      inTransaction = 0;
+      groups = moreIf (is grh c) (n .groups);
+      transactions = moreIf (is head c) (n .transactions);
+      inGroup = cond (is grh c) 0 (moreIf (is head c) (n .inGroup));
+      groupRecords = cond (is grh c) 1 (suc (n .groupRecords));
+      inTransaction = cond (is head c) 1 (suc (n .inTransaction));
       records = suc (n .records);
     }
-count n head =
-    record {
-      groups = n .groups;
-      transactions = suc (n .transactions);
-      inGroup = suc (n .inGroup);
-      groupRecords = suc (n .groupRecords);
-      inTransaction = 1;
-      records = suc (n .records);
-    }
-count n detail =
-    record {
-      groups = n .groups;
-      transactions = n .transactions;
-      inGroup = n .inGroup;
-      groupRecords = suc (n .groupRecords);
-      inTransaction = suc (n .inTransaction);
-      records = suc (n .records);
-    }
-count n grt =
-    record {
-      groups = n .groups;
-      transactions = n .transactions;
-      inGroup = 0;
-      groupRecords = 0;
-      inTransaction = 0;
-      records = suc (n .records);
-    }
-count n trl = one n
-count n unknown = one n
 
 -- the digits that a record of the class has to carry there
 abbrev pub expected : Counts → Class → Bytes
@@ -160,22 +132,23 @@ module _ (𝕋 : Table) where
   abbrev pub check7 : Check
   check7 = record { State = Class; begin = unknown; ok = λ c r. mayFollow c (cls r); next = λ _ r. cls r; end = λ c. is trl c }
 
-  abbrev pub numbered : Counts → Bytes → Bool
-  numbered n r = sameBytes (slot (cls r) r) (expected n (cls r))
+  -- a record's number positions hold what it has to carry
+  abbrev pub rightlyNumbered : Counts → Bytes → Bool
+  rightlyNumbered n r = sameBytes (slot (cls r) r) (expected n (cls r))
 
   abbrev pub counting : (Counts → Bytes → Bool) → Check
-  counting test = record { State = Counts; begin = zeros; ok = test; next = λ n r. count n (cls r); end = λ _. true }
+  counting test = record { State = Counts; begin = noneCounted; ok = test; next = λ n r. count n (cls r); end = λ _. true }
 
   -- 8: prefixes and GRH numbers
   abbrev pub ok8 : Counts → Bytes → Bool
-  ok8 n r = closes (cls r) || numbered n r
+  ok8 n r = closes (cls r) || rightlyNumbered n r
 
   abbrev pub check8 : Check
   check8 = counting ok8
 
   -- 9: GRT and TRL numbers
   abbrev pub ok9 : Counts → Bytes → Bool
-  ok9 n r = not (closes (cls r)) || numbered n r
+  ok9 n r = not (closes (cls r)) || rightlyNumbered n r
 
   abbrev pub check9 : Check
   check9 = counting ok9

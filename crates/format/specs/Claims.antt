@@ -1,18 +1,20 @@
 -- Demand 3 and what numbering promises, as statements over any edition's table. proofs/ has their proofs.
 use Prim.Native.Nat.{ℕ, suc, pred, _^_, _≤_, _<_}
 use mathlib.Core.Path.{_≡_}
-use mathlib.Core.Logic.{_↔_, _≢_}
-use mathlib.Core.List.{List, [], _∷_}
+use mathlib.Core.Bool.{Bool}
+use mathlib.Core.Logic.{_↔_}
+use mathlib.Core.List.{List, [], _∷_, map}
 use lib.ListN.{length}
-use Rattle.format.specs.Bytes.{Bytes, pairs, unlines}
+use lib.Dec.{T}
+use Rattle.format.specs.Bytes.{Bytes, isOneOf, pairs, unlines}
 use Rattle.format.specs.Doc.{Doc, write, transactionsOf, recordsAll}
 use Rattle.format.specs.Table.{Class, hdr, grh, head, detail, grt, trl, unknown, Table}
 use Rattle.format.specs.WellFormed.{Item, item, items, WellFormed, Loose}
 use Rattle.format.specs.Lines.{good, lines}
-use Rattle.format.specs.Checks.{Counts, zeros, count}
+use Rattle.format.specs.Checks.{Counts, noneCounted, count}
 use Rattle.format.specs.Structure.{Answer, passed, refused, mostBytes, mostRecords, structure}
 use Rattle.format.specs.Tree.{tree, leaves, numberless}
-use Rattle.format.specs.Numbering.{numbering, numberedFile}
+use Rattle.format.specs.Numbering.{recordsIn, held, numbering, numberedFile}
 
 -- the size limits, 3 and 5: a record is the text before a CR LF
 abbrev pub Limits : Bytes → Type 0
@@ -26,20 +28,25 @@ Content 𝕋 f = (d : Doc) × WellFormed 𝕋 d × (write d ≡ f)
 abbrev pub lengths : Doc → Answer
 lengths d = passed (length (d .groups)) (transactionsOf (d .groups)) (recordsAll d)
 
-abbrev pub Passes : Table → Bytes → Type 0
-Passes 𝕋 f = (g : ℕ) × (t : ℕ) × (n : ℕ) × (structure 𝕋 f ≡ passed g t n)
+abbrev pub PassesStructure : Table → Bytes → Type 0
+PassesStructure 𝕋 f = (g : ℕ) × (m : ℕ) × (n : ℕ) × (structure 𝕋 f ≡ passed g m n)
 
--- refused on structure: by a number other than 3 and 5
-abbrev pub Refused : Table → Bytes → Type 0
-Refused 𝕋 f = (n : ℕ) × (i : ℕ) × (structure 𝕋 f ≡ refused n i) × (n ≢ 3) × (n ≢ 5)
+-- the refusals on structure; 3 and 5 are the size limits
+abbrev pub isStructural : ℕ → Bool
+isStructural n = isOneOf n (4 ∷ 6 ∷ 7 ∷ 8 ∷ 9 ∷ 10 ∷ [])
+
+abbrev pub RefusedOnStructure : Table → Bytes → Type 0
+RefusedOnStructure 𝕋 f = (n : ℕ) × (i : ℕ) × (structure 𝕋 f ≡ refused n i) × T (isStructural n)
 
 pub record Demand3 (𝕋 : Table) : Type 0 where
   -- a file passes exactly when it is within the size limits and there is such a list
-  pub exactly : (f : Bytes) → Passes 𝕋 f ↔ (Limits f × Content 𝕋 f)
+  pub exactly : (f : Bytes) → PassesStructure 𝕋 f ↔ (Limits f × Content 𝕋 f)
   -- no second such list exists
   pub only : (d e : Doc) → WellFormed 𝕋 d → WellFormed 𝕋 e → write d ≡ write e → d ≡ e
   -- within the limits it is refused on structure exactly when no list exists
-  pub else-refused : (f : Bytes) → Limits f → Refused 𝕋 f ↔ (Content 𝕋 f → ⊥)
+  pub else-refused : (f : Bytes) → Limits f → RefusedOnStructure 𝕋 f ↔ (Content 𝕋 f → ⊥)
+  -- and never otherwise, whatever its size
+  pub never-otherwise : (f : Bytes) → RefusedOnStructure 𝕋 f → Content 𝕋 f → ⊥
   -- the counts are the lengths of that one list
   pub counts : (d : Doc) → WellFormed 𝕋 d → Limits (write d) → structure 𝕋 (write d) ≡ lengths d
 
@@ -51,7 +58,7 @@ pub record Grown (𝕋 : Table) (f : Bytes) (rs : List Bytes) (counts : Answer) 
   pub content : WellFormed 𝕋 (numberless (tree 𝕋 rs)) × (write (numberless (tree 𝕋 rs)) ≡ f)
 
 abbrev pub Grows : Table → Type 0
-Grows 𝕋 = (f : Bytes) (rs : List Bytes) (g t n : ℕ) → lines f ≡ good rs → structure 𝕋 f ≡ passed g t n → Grown 𝕋 f rs (passed g t n)
+Grows 𝕋 = (f : Bytes) (rs : List Bytes) (g m n : ℕ) → lines f ≡ good rs → structure 𝕋 f ≡ passed g m n → Grown 𝕋 f rs (passed g m n)
 
 -- each number that a record of the class carries has its decimal digits within its width
 abbrev pub Fit : Counts → Class → Type 0
@@ -69,7 +76,7 @@ AllFit n (item c s ∷ is) = Fit n c × AllFit (count n c) is
 
 -- within the size limits every number fits
 abbrev pub Fits : Table → Type 0
-Fits 𝕋 = (d : Doc) → WellFormed 𝕋 d → Limits (write d) → AllFit zeros (items d)
+Fits 𝕋 = (d : Doc) → WellFormed 𝕋 d → Limits (write d) → AllFit noneCounted (items d)
 
 -- the file has that content, whatever stands in its number positions
 abbrev pub Unnumbered : Doc → Bytes → Type 0
@@ -78,33 +85,36 @@ Unnumbered d f = (rs : List Bytes) × Loose (items d) rs × (unlines rs ≡ f)
 abbrev pub Fillable : Table → Bytes → Type 0
 Fillable 𝕋 f = (d : Doc) × WellFormed 𝕋 d × Unnumbered d f
 
-abbrev pub Numbered : Table → Bytes → Type 0
-Numbered 𝕋 f = (g : ℕ) × (t : ℕ) × (n : ℕ) × (numbering 𝕋 f ≡ passed g t n)
+abbrev pub Numberable : Table → Bytes → Type 0
+Numberable 𝕋 f = (g : ℕ) × (m : ℕ) × (n : ℕ) × (numbering 𝕋 f ≡ passed g m n)
 
 pub record Numbers (𝕋 : Table) : Type 0 where
   -- a file is numbered exactly when it is within the size limits and has some content, that is, is right by 4, 6, 7 and 10
-  pub exactly : (f : Bytes) → Numbered 𝕋 f ↔ (Limits f × Fillable 𝕋 f)
+  pub exactly : (f : Bytes) → Numberable 𝕋 f ↔ (Limits f × Fillable 𝕋 f)
   -- no second content fits
   pub only : (f : Bytes) (d e : Doc) → WellFormed 𝕋 d → WellFormed 𝕋 e → Unnumbered d f → Unnumbered e f → d ≡ e
   -- that content is written out, and the answer is its lengths
   pub writes : (f : Bytes) (d : Doc) → Limits f → WellFormed 𝕋 d → Unnumbered d f
       → (numbering 𝕋 f ≡ lengths d) × (numberedFile 𝕋 f ≡ write d)
-  -- so no byte but those of the number positions is altered, and the length stays
-  pub else-same : (f : Bytes) → Numbered 𝕋 f → (d : Doc) × Unnumbered d f × Unnumbered d (numberedFile 𝕋 f)
-  pub as-long : (f : Bytes) → Numbered 𝕋 f → length (numberedFile 𝕋 f) ≡ length f
+  -- so file and result have the same content,
+  pub else-same : (f : Bytes) → Numberable 𝕋 f → (d : Doc) × WellFormed 𝕋 d × Unnumbered d f × Unnumbered d (numberedFile 𝕋 f)
+  -- record by record the same class and, outside the number positions, the same bytes,
+  pub outside : (f : Bytes) → Numberable 𝕋 f → map (held 𝕋) (recordsIn (lines (numberedFile 𝕋 f))) ≡ map (held 𝕋) (recordsIn (lines f))
+  -- and the same length
+  pub as-long : (f : Bytes) → Numberable 𝕋 f → length (numberedFile 𝕋 f) ≡ length f
   -- the result passes, with the same numbers
-  pub passes : (f : Bytes) (g t n : ℕ) → numbering 𝕋 f ≡ passed g t n → structure 𝕋 (numberedFile 𝕋 f) ≡ passed g t n
+  pub passes : (f : Bytes) (g m n : ℕ) → numbering 𝕋 f ≡ passed g m n → structure 𝕋 (numberedFile 𝕋 f) ≡ passed g m n
   -- a file that passes stays as it is
-  pub same : (f : Bytes) (g t n : ℕ) → structure 𝕋 f ≡ passed g t n
-      → (numbering 𝕋 f ≡ passed g t n) × (numberedFile 𝕋 f ≡ f)
+  pub same : (f : Bytes) (g m n : ℕ) → structure 𝕋 f ≡ passed g m n
+      → (numbering 𝕋 f ≡ passed g m n) × (numberedFile 𝕋 f ≡ f)
   -- and so twice is once
-  pub twice : (f : Bytes) (g t n : ℕ) → numbering 𝕋 f ≡ passed g t n
-      → (numbering 𝕋 (numberedFile 𝕋 f) ≡ passed g t n) × (numberedFile 𝕋 (numberedFile 𝕋 f) ≡ numberedFile 𝕋 f)
+  pub twice : (f : Bytes) (g m n : ℕ) → numbering 𝕋 f ≡ passed g m n
+      → (numbering 𝕋 (numberedFile 𝕋 f) ≡ passed g m n) × (numberedFile 𝕋 (numberedFile 𝕋 f) ≡ numberedFile 𝕋 f)
 
 -- a place, and a count of records, in 32 bits with much room
 abbrev pub Near : Answer → Type 0
 Near (refused n i) = i ≤ mostBytes
-Near (passed g t n) = n ≤ mostRecords
+Near (passed g m n) = n ≤ mostRecords
 
 abbrev pub Nearby : Table → Type 0
 Nearby 𝕋 = (f : Bytes) → Near (structure 𝕋 f) × Near (numbering 𝕋 f)

@@ -1,10 +1,11 @@
 -- A file's content without its numbers, and the numbering rules that write it out (001, 3.4 to 3.8). No reader stands here.
+-- Letters: g, m and n number or count groups, transactions and records; s is a record without its numbers.
 use Prim.Native.Nat.{ℕ, suc, _+_}
 use mathlib.Core.List.{List, [], _∷_, _++_}
 use lib.ListN.{length}
 use Rattle.format.specs.Bytes.{Bytes, decimal, put, unlines}
 
--- each record is held with its number positions cut out; Tree has the same shape with whole records
+-- each record is held with its number positions cut out
 pub record Transaction : Type 0 where
   pub header : Bytes
   pub details : List Bytes
@@ -44,43 +45,43 @@ recordsAll d = recordsOf (d .groups) + 2
 
 -- ---- the numbering rules
 
--- the prefix of a header or detail behind its type: transaction number (start 4, 8 digits), record number (start 12, 8 digits)
+-- the prefix of a header or detail after its type: transaction number (start 4, 8 digits), record number (start 12, 8 digits)
 abbrev pub prefixed : ℕ → ℕ → Bytes → Bytes
-prefixed t k s = put 4 (decimal 8 t ++ decimal 8 k) s
+prefixed m n s = put 4 (decimal 8 m ++ decimal 8 n) s
 
--- the details of transaction t, from record number k
-abbrev pub details : ℕ → ℕ → List Bytes → List Bytes
-details t k [] = []
-details t k (s ∷ ss) = prefixed t k s ∷ details t (suc k) ss
+-- the details of transaction m, from record number n on
+abbrev pub writtenDetails : ℕ → ℕ → List Bytes → List Bytes
+writtenDetails m n [] = []
+writtenDetails m n (s ∷ ss) = prefixed m n s ∷ writtenDetails m (suc n) ss
 
--- transactions from number t on: a header's record number is 0, details count from 1
-abbrev pub transactions : ℕ → List Transaction → List Bytes
-transactions t [] = []
-transactions t (x ∷ xs) = prefixed t 0 (x .header) ∷ details t 1 (x .details) ++ transactions (suc t) xs
+-- transactions from number m on: a header's record number is 0, details count from 1
+abbrev pub writtenTransactions : ℕ → List Transaction → List Bytes
+writtenTransactions m [] = []
+writtenTransactions m (x ∷ xs) = prefixed m 0 (x .header) ∷ writtenDetails m 1 (x .details) ++ writtenTransactions (suc m) xs
 
 -- GRH: group number (start 7, 5 digits)
 abbrev pub opened : ℕ → Bytes → Bytes
-opened n s = put 7 (decimal 5 n) s
+opened g s = put 7 (decimal 5 g) s
 
 -- GRT: group number (start 4, 5 digits), transactions (9, 8), records including GRH and GRT (17, 8)
 -- TRL: groups (4, 5), transactions (9, 8), records including HDR and TRL (17, 8)
 abbrev pub closed : ℕ → ℕ → ℕ → Bytes → Bytes
-closed n t r s = put 4 (decimal 5 n ++ decimal 8 t ++ decimal 8 r) s
+closed g m n s = put 4 (decimal 5 g ++ decimal 8 m ++ decimal 8 n) s
 
--- groups from number n on; transactions count from 0 in each
-abbrev pub groups : ℕ → List Group → List Bytes
-groups n [] = []
-groups n (g ∷ gs) =
-    opened n (g .opening)
-    ∷ transactions 0 (g .transactions)
-    ++ closed n (length (g .transactions)) (recordsG g) (g .closing)
-    ∷ groups (suc n) gs
+-- groups from number g on; transactions count from 0 in each
+abbrev pub writtenGroups : ℕ → List Group → List Bytes
+writtenGroups g [] = []
+writtenGroups g (x ∷ xs) =
+    opened g (x .opening)
+    ∷ writtenTransactions 0 (x .transactions)
+    ++ closed g (length (x .transactions)) (recordsG x) (x .closing)
+    ∷ writtenGroups (suc g) xs
 
 -- groups count from 1
 unfoldable pub written : Doc → List Bytes
 written d =
     d .header
-    ∷ groups 1 (d .groups)
+    ∷ writtenGroups 1 (d .groups)
     ++ closed (length (d .groups)) (transactionsOf (d .groups)) (recordsAll d) (d .trailer)
     ∷ []
 

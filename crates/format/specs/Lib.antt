@@ -11,5 +11,5 @@ pub mod Checks
 pub mod Structure
 pub mod Tree
 pub mod Numbering
-pub mod Room
+pub mod Lent
 pub mod Claims

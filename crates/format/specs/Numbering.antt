@@ -4,7 +4,7 @@ use Rattle.format.specs.Bytes.{Bytes, put, unlines}
 use Rattle.format.specs.Table.{start, Table}
 use Rattle.format.specs.WellFormed.{Item, item}
 use Rattle.format.specs.Lines.{Lines, good, bad, lines}
-use Rattle.format.specs.Checks.{Counts, zeros, count, expected, cut, cls, faultOf, check6, check7}
+use Rattle.format.specs.Checks.{Counts, noneCounted, count, expected, cut, cls, faultOf, check6, check7}
 use Rattle.format.specs.Structure.{Answer, refusal, versioned, ofFile}
 
 -- the numbers put into records held without them
@@ -31,7 +31,7 @@ module _ (𝕋 : Table) where
 
   -- the bytes written where it is not refused
   abbrev pub renumbered : List Bytes → Bytes
-  renumbered rs = unlines (number zeros (map held rs))
+  renumbered rs = unlines (number noneCounted (map held rs))
 
   unfoldable pub numberedFile : Bytes → Bytes
   numberedFile f = renumbered (recordsIn (lines f))

@@ -8,7 +8,7 @@ use lib.Dec.{leb}
 use Rattle.format.specs.Bytes.{Bytes}
 use Rattle.format.specs.Table.{Table}
 use Rattle.format.specs.Lines.{Lines, good, bad, lines}
-use Rattle.format.specs.Checks.{Counts, zeros, faultOf, check6, check7, check8, check9, countFrom}
+use Rattle.format.specs.Checks.{Counts, noneCounted, faultOf, check6, check7, check8, check9, countFrom}
 
 -- a refusal's number and place; or the numbers of groups, transactions and records
 pub data Answer : Type 0 where
@@ -47,9 +47,9 @@ abbrev pub ofFile : (List Bytes → Answer) → Bytes → Answer
 ofFile judge f = refusal 3 (unless (leb (length f) mostBytes) 0) (ofLines judge (lines f))
 
 module _ (𝕋 : Table) where
-  -- 10, and at last the three numbers
+  -- 10, and finally the three numbers
   abbrev pub versioned : List Bytes → Answer
-  versioned rs = refusal 10 (unless (𝕋 .version (firstOf rs)) 0) (countsOf (countFrom 𝕋 zeros rs))
+  versioned rs = refusal 10 (unless (𝕋 .version (firstOf rs)) 0) (countsOf (countFrom 𝕋 noneCounted rs))
 
   -- 6 to 10
   unfoldable pub judged : List Bytes → Answer

@@ -46,7 +46,7 @@ pub record Table : Type 0 where
   pub class : Bytes → Class
   pub len : Bytes → ℕ
   pub version : Bytes → Bool
-  pub room : (t : Bytes) → T (known (class t)) → at (class t) + width (class t) ≤ len t
+  pub inside : (type : Bytes) → T (known (class type)) → at (class type) + width (class type) ≤ len type
 
 -- ---- a table from its rows
 
@@ -55,38 +55,38 @@ pub data Row : Type 0 where
   row : Bytes → ℕ → Class → Row
 
 abbrev pub lenOf : Row → ℕ
-lenOf (row t n c) = n
+lenOf (row type n c) = n
 
 abbrev pub classOf : Row → Class
-classOf (row t n c) = c
+classOf (row type n c) = c
 
 abbrev pub noType : Row
 noType = row [] 0 unknown
 
 -- the first row of that type
 abbrev pub rowOf : List Row → Bytes → Row
-rowOf [] t = noType
-rowOf (row u n c ∷ rows) t = cond (sameBytes u t) (row u n c) (rowOf rows t)
+rowOf [] type = noType
+rowOf (row u n c ∷ rows) type = cond (sameBytes u type) (row u n c) (rowOf rows type)
 
 -- one test over the whole table says that the numbers lie within the records
-abbrev pub roomy : List Row → Bool
-roomy [] = true
-roomy (row t n c ∷ rows) = leb (at c + width c) n && roomy rows
+abbrev pub allInside : List Row → Bool
+allInside [] = true
+allInside (row type n c ∷ rows) = leb (at c + width c) n && allInside rows
 
-abbrev pub Room : Row → Type 0
-Room r = T (known (classOf r)) → at (classOf r) + width (classOf r) ≤ lenOf r
+abbrev pub Inside : Row → Type 0
+Inside r = T (known (classOf r)) → at (classOf r) + width (classOf r) ≤ lenOf r
 
-pub room : (rows : List Row) → T (roomy rows) → (t : Bytes) → Room (rowOf rows t)
-room [] q t = λ k. absurd k
-room (row u n c ∷ rows) q t = go (sameBytes u t) (leb (at c + width c) n) (leb→le (at c + width c) n) q (λ p. room rows p t)
+pub inside : (rows : List Row) → T (allInside rows) → (type : Bytes) → Inside (rowOf rows type)
+inside [] q type = λ k. absurd k
+inside (row u n c ∷ rows) q type = go (sameBytes u type) (leb (at c + width c) n) (leb→le (at c + width c) n) q (λ p. inside rows p type)
   where
-    go : (b m : Bool) → (T m → at c + width c ≤ n) → T (m && roomy rows) → (T (roomy rows) → Room (rowOf rows t))
-        → Room (cond b (row u n c) (rowOf rows t))
+    go : (b m : Bool) → (T m → at c + width c ≤ n) → T (m && allInside rows) → (T (allInside rows) → Inside (rowOf rows type))
+        → Inside (cond b (row u n c) (rowOf rows type))
     go true true w p rest k = w tt
     go true false w p rest k = absurd p
     go false true w p rest k = rest p k
     go false false w p rest k = absurd p
 
-abbrev pub tableOf : (rows : List Row) → (Bytes → Bool) → T (roomy rows) → Table
+abbrev pub tableOf : (rows : List Row) → (Bytes → Bool) → T (allInside rows) → Table
 tableOf rows version q =
-    record { class = λ t. classOf (rowOf rows t); len = λ t. lenOf (rowOf rows t); version = version; room = room rows q }
+    record { class = λ type. classOf (rowOf rows type); len = λ type. lenOf (rowOf rows type); version = version; inside = inside rows q }

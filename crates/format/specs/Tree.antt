@@ -8,9 +8,13 @@ use Rattle.format.specs.Table.{hdr, grh, head, detail, grt, trl, Table}
 use Rattle.format.specs.Checks.{is, cls, cut}
 use Rattle.format.specs.Structure.{firstOf}
 
+-- the shape of a content, with whole records
+abbrev pub Tree : Type 0
+Tree = Doc
+
 -- ---- from a list of records to the tree
 
--- the records at the front that pass, and what stands behind them
+-- the records at the front that pass, and what stands after them
 abbrev pub span : (Bytes → Bool) → List Bytes → List Bytes
 span p [] = []
 span p (r ∷ rs) = cond (p r) (r ∷ span p rs) []
@@ -51,7 +55,7 @@ module _ (𝕋 : Table) where
       (record { opening = r; transactions = transactionsIn (span isInside rs); closing = firstOf (after isInside rs) } ∷ groupsIn rs)
       (groupsIn rs)
 
-  unfoldable pub tree : List Bytes → Doc
+  unfoldable pub tree : List Bytes → Tree
   tree rs = record { header = firstOf rs; groups = groupsIn rs; trailer = lastOf rs }
 
 -- ---- from the tree to the list of its records
@@ -64,7 +68,7 @@ abbrev pub recordsInG : List Group → List Bytes
 recordsInG [] = []
 recordsInG (g ∷ gs) = g .opening ∷ recordsInT (g .transactions) ++ g .closing ∷ recordsInG gs
 
-unfoldable pub leaves : Doc → List Bytes
+unfoldable pub leaves : Tree → List Bytes
 leaves d = d .header ∷ recordsInG (d .groups) ++ d .trailer ∷ []
 
 -- ---- the tree with the number positions of its records cut out
@@ -75,5 +79,5 @@ cutT x = record { header = cut head (x .header); details = map (cut detail) (x .
 abbrev pub cutG : Group → Group
 cutG g = record { opening = cut grh (g .opening); transactions = map cutT (g .transactions); closing = cut grt (g .closing) }
 
-unfoldable pub numberless : Doc → Doc
+unfoldable pub numberless : Tree → Doc
 numberless d = record { header = cut hdr (d .header); groups = map cutG (d .groups); trailer = cut trl (d .trailer) }

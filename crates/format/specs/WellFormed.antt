@@ -50,8 +50,12 @@ module _ (𝕋 : Table) where
 
 -- ---- records that carry any text whatever at their number positions
 
+-- r is the held record s with some text put there
+abbrev pub Filled : Class → Bytes → Bytes → Type 0
+Filled c s r = (x : Bytes) × Text x × (length x ≡ width c) × (put (start c) x s ≡ r)
+
 abbrev pub Loose : List Item → List Bytes → Type 0
 Loose [] [] = Unit {0}
 Loose [] (r ∷ rs) = ⊥
 Loose (i ∷ is) [] = ⊥
-Loose (item c s ∷ is) (r ∷ rs) = ((x : Bytes) × Text x × (length x ≡ width c) × (put (start c) x s ≡ r)) × Loose is rs
+Loose (item c s ∷ is) (r ∷ rs) = Filled c s r × Loose is rs

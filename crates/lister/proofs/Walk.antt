@@ -10,9 +10,8 @@ use lib.Seq.{take-take, drop-drop, drop-cons}
 use Rattle.format.specs.Bytes.{Bytes}
 use Rattle.format.specs.Cwr22.{cwr22}
 use Rattle.format.specs.Lines.{lines}
-use Rattle.format.specs.Checks.{check6}
+use Rattle.format.specs.Checks.{check6, Along}
 use Rattle.format.specs.Numbering.{recordsIn}
-use Rattle.format.proofs.Passes.{Along}
 use Rattle.rules.specs.Findings.{places}
 use Rattle.rules.specs.Listing.{recordLine}
 use Rattle.text.specs.Words.{wordOf}

@@ -11,7 +11,7 @@ use Rattle.format.specs.Bytes.{Bytes}
 use Rattle.format.specs.Lines.{lines}
 use Rattle.format.specs.Structure.{Answer, refused, passed, mostRecords}
 use Rattle.format.specs.Numbering.{recordsIn}
-use Rattle.format.specs.Room.{leftIn}
+use Rattle.format.specs.Lent.{leftIn}
 use Rattle.rules.specs.Tables.{Tables}
 use Rattle.rules.specs.Values.{largestTolerance}
 use Rattle.rules.specs.Verdicts.{findingBytes, fileFindings, fileVerdicts}

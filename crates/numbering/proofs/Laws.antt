@@ -11,10 +11,9 @@ use Rattle.format.specs.Bytes.{Bytes, unlines, put}
 use Rattle.format.specs.Table.{Class, start, at, width}
 use Rattle.format.specs.Cwr22.{cwr22}
 use Rattle.format.specs.Lines.{lines}
-use Rattle.format.specs.Checks.{Counts, zeros, count, expected, cut, cls, classAt, check6}
+use Rattle.format.specs.Checks.{Counts, noneCounted, count, expected, cut, cls, classAt, check6, Along}
 use Rattle.format.specs.Numbering.{number, held, recordsIn, numberedFile}
 use Rattle.format.proofs.Slots.{overwritten}
-use Rattle.format.proofs.Passes.{Along}
 use Rattle.kinds.specs.Rows.{rowFor, shapeOf}
 use Rattle.kinds.specs.declared.Row.{Row}
 use Rattle.kinds.specs.declared.Shape.{Shape}
@@ -82,7 +81,7 @@ pub record Filling (f old : Bytes) (out : Bytes) (s : Stand) : Type 0 where
   pub owed : take (s .at) out ++ unlines (number (tally (s .counts)) (map (held cwr22) (recordsIn (lines (drop (s .at) f))))) ≡ numberedFile cwr22 f
   pub kept : drop (s .at) out ≡ drop (s .at) old
 
-pub filling-start : (f old : Bytes) → Sized f → (n : CodeCounts) → tally n ≡ zeros → Kept n → n .records ≡ 0
+pub filling-start : (f old : Bytes) → Sized f → (n : CodeCounts) → tally n ≡ noneCounted → Kept n → n .records ≡ 0
     → Filling f old old (record { at = 0; place = 6; counts = n })
 unfolding numberedFile
 filling-start f old s n e w z =

@@ -11,7 +11,7 @@ use Rattle.format.specs.Cwr22.{cwr22}
 use Rattle.format.specs.Lines.{good, lines}
 use Rattle.format.specs.Structure.{Answer, refused, passed}
 use Rattle.format.specs.Numbering.{placed, numbering, numberedFile}
-use Rattle.format.specs.Room.{inRoom, leftIn}
+use Rattle.format.specs.Lent.{inRoom, leftIn}
 use Rattle.format.proofs.Answers.{file-read, answer-placed}
 use Rattle.format.proofs.At22.{numbers-22}
 use Rattle.answers.specs.Numbers.{isPassed}

@@ -6,10 +6,9 @@ use Prim.Native.Nat.{_≤_}
 use Rattle.format.specs.Bytes.{Bytes}
 use Rattle.format.specs.Cwr22.{cwr22}
 use Rattle.format.specs.Lines.{lines}
-use Rattle.format.specs.Checks.{check6}
+use Rattle.format.specs.Checks.{check6, Along}
 use Rattle.format.specs.Structure.{mostBytes}
 use Rattle.format.specs.Numbering.{recordsIn}
-use Rattle.format.proofs.Passes.{Along}
 use Rattle.structure.specs.Rest.{isGood}
 
 pub record Sized (f : Bytes) : Type 0 where

@@ -6,7 +6,7 @@ use Rattle.format.specs.Bytes.{Bytes}
 use Rattle.format.specs.Cwr22.{cwr22}
 use Rattle.format.specs.Structure.{Answer}
 use Rattle.format.specs.Numbering.{numbering, numberedFile}
-use Rattle.format.specs.Room.{inRoom, leftIn}
+use Rattle.format.specs.Lent.{inRoom, leftIn}
 
 -- 11: a buffer shorter than the file
 unfoldable pub numberAnswer : Bytes → ℕ → Answer

@@ -12,7 +12,7 @@ ghost use lib.ListN.{length, take, drop};
 ghost use Rattle.format.specs.Bytes.{sameBytes, decimal};
 ghost use Rattle.format.specs.Fields.{fieldOf};
 ghost use Rattle.format.specs.Table.{at, width};
-ghost use Rattle.format.specs.Checks.{zeros, count, classAt, slot, expected};
+ghost use Rattle.format.specs.Checks.{noneCounted, count, classAt, slot, expected};
 ghost use Rattle.text.specs.Words.{wordOf, bytesOf};
 ghost use Rattle.numbers.specs.Tally.{tally, Written, Kept, Room};
 ghost use Rattle.numbers.specs.Carried.{pair, words, digitsOf, startOf, sizeOf, over, Carried};
@@ -60,7 +60,7 @@ pub enum Numbers {
 
 impl Counts {
     pub fn zero() -> Counts
-        ensures { λ r. ⌜ tally r ≡ zeros ⌝ }
+        ensures { λ r. ⌜ tally r ≡ noneCounted ⌝ }
         ensures { λ r. ⌜ Room r × (r .records ≡ 0) ⌝ }
     {
         Counts {

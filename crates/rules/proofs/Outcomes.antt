@@ -11,7 +11,7 @@ use Rattle.format.specs.Bytes.{Bytes}
 use Rattle.format.specs.Doc.{write}
 use Rattle.format.specs.Cwr22.{cwr22}
 use Rattle.format.specs.Structure.{Answer, refused, passed, refusal, unless, structure}
-use Rattle.format.specs.Room.{inRoom, leftIn}
+use Rattle.format.specs.Lent.{inRoom, leftIn}
 use Rattle.format.specs.Claims.{Near}
 use Rattle.format.proofs.Logic.{is-true, is-T, both, left, right}
 use Rattle.format.proofs.Answers.{tested, untested, By, refusal-by, structure-by}

@@ -10,7 +10,7 @@ use Rattle.format.specs.Lines.{lines}
 use Rattle.format.specs.Structure.{Answer, refusal, unless, structure}
 use Rattle.format.specs.Numbering.{recordsIn}
 use Rattle.format.specs.Tree.{tree}
-use Rattle.format.specs.Room.{inRoom, leftIn}
+use Rattle.format.specs.Lent.{inRoom, leftIn}
 use Rattle.rules.specs.Tables.{Tables, languageSize, societySize, categorySize, rightTable}
 use Rattle.rules.specs.Values.{largestTolerance}
 use Rattle.rules.specs.Verdicts.{findingBytes, fileFindings, fileVerdicts}

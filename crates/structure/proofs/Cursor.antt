@@ -13,10 +13,9 @@ use Rattle.format.specs.Bytes.{Bytes}
 use Rattle.format.specs.Table.{Class, trl, unknown}
 use Rattle.format.specs.Cwr22.{cwr22}
 use Rattle.format.specs.Lines.{good, lines}
-use Rattle.format.specs.Checks.{is, check6, check7, cls, mayFollow}
+use Rattle.format.specs.Checks.{is, check6, check7, cls, mayFollow, Along, AlongFrom}
 use Rattle.format.specs.Numbering.{recordsIn}
 use Rattle.format.proofs.Logic.{is-T, is-true}
-use Rattle.format.proofs.Passes.{Along, AlongFrom}
 use Rattle.format.proofs.Answers.{Placed}
 use Rattle.kinds.specs.declared.Row.{Row}
 use Rattle.kinds.specs.Rows.{rowFor}

@@ -14,12 +14,11 @@ use Rattle.format.specs.Bytes.{Bytes, beginsPair}
 use Rattle.format.specs.Table.{at, width, known}
 use Rattle.format.specs.Cwr22.{cwr22}
 use Rattle.format.specs.Lines.{Lines, good, bad, lines}
-use Rattle.format.specs.Checks.{check6, classAt, cls, typed}
+use Rattle.format.specs.Checks.{check6, classAt, cls, typed, Along}
 use Rattle.format.specs.Numbering.{recordsIn}
 use Rattle.format.proofs.Lines.{onto}
 use Rattle.format.proofs.Logic.{is-true, left, right}
 use Rattle.format.proofs.Slots.{three}
-use Rattle.format.proofs.Passes.{Along}
 use Rattle.kinds.specs.Rows.{rowFor}
 use Rattle.kinds.specs.declared.Row.{Row}
 use Rattle.format.proofs.Tests.{by-cases}
@@ -92,7 +91,7 @@ module _ (f : Bytes) (i : ℕ) (here : i < length f) (fine : isGood (lines (drop
       let r = recordAt f i in
       let k = left (known (cls cwr22 r)) (eqb (length r) (cwr22 .len (take 3 r))) here-typed in
       let l = eqb→eq (length r) (cwr22 .len (take 3 r)) (right (known (cls cwr22 r)) (eqb (length r) (cwr22 .len (take 3 r))) here-typed) in
-      omega (arith, three (cls cwr22 r), cwr22 .room (take 3 r) k, l, long f i here fine)
+      omega (arith, three (cls cwr22 r), cwr22 .inside (take 3 r) k, l, long f i here fine)
 
   module _ (row : Row) (its : row ≡ rowFor (take 3 (drop i f))) where
     its-own : row ≡ rowFor (take 3 (recordAt f i))

@@ -11,7 +11,7 @@ use lib.Dec.{leb}
 use Rattle.format.specs.Bytes.{Bytes, Text}
 use Rattle.format.specs.Table.{Class, unknown, Table}
 use Rattle.format.specs.Lines.{Lines, good, bad, lines}
-use Rattle.format.specs.Checks.{Check, faultFrom, Counts, zeros, count, counting, cls, typed, numbered, mayFollow, is, closes, check7}
+use Rattle.format.specs.Checks.{Check, faultFrom, Counts, noneCounted, count, counting, cls, typed, rightlyNumbered, mayFollow, is, closes, check7}
 use Rattle.format.specs.Structure.{Answer, refused, refusal, unless, mostBytes, mostRecords, firstOf, judged, ofFile, ofLines, structure}
 use Rattle.format.specs.Numbering.{placed, numbering, recordsIn}
 use Rattle.format.proofs.Lines.{onto, lines-cons}
@@ -63,14 +63,14 @@ module _ (𝕋 : Table) (asked version : Bool) where
 
   -- a record that is right in all that is asked moves nothing
   pub rest-turn : (p : Class) (n : Counts) (r f : Bytes) → Text r → typed 𝕋 r ≡ true → mayFollow p (cls 𝕋 r) ≡ true
-      → (not asked || numbered 𝕋 n r) ≡ true
+      → (not asked || rightlyNumbered 𝕋 n r) ≡ true
       → restFrom 𝕋 asked version p n (r ++ 13 ∷ 10 ∷ f) ≡ restFrom 𝕋 asked version (cls 𝕋 r) (count n (cls 𝕋 r)) f
   unfolding linesFrom moreFaults
   rest-turn p n r f h t s q = ap (linesFrom 𝕋 asked version p n) (lines-cons r f h) ∙ go (lines f)
     where
       no-fault : moreFaults 𝕋 asked faultless p n r ≡ faultless
       no-fault =
-          rw (s, asked-less (not asked) (closes (cls 𝕋 r)) (numbered 𝕋 n r) q, asked-less (not asked) (not (closes (cls 𝕋 r))) (numbered 𝕋 n r) q)
+          rw (s, asked-less (not asked) (closes (cls 𝕋 r)) (rightlyNumbered 𝕋 n r) q, asked-less (not asked) (not (closes (cls 𝕋 r))) (rightlyNumbered 𝕋 n r) q)
 
       go : (ls : Lines) → linesFrom 𝕋 asked version p n (onto (r ∷ []) ls) ≡ linesFrom 𝕋 asked version (cls 𝕋 r) (count n (cls 𝕋 r)) ls
       go (bad k) = ap (refused 4) (omega (arith, count-records (cls 𝕋 r) n))
@@ -97,25 +97,25 @@ never 𝕋 n i [] = refl
 never 𝕋 n i (r ∷ rs) = never 𝕋 (count n (cls 𝕋 r)) (suc i) rs
 
 module _ (𝕋 : Table) where
-  judged-asked : (rs : List Bytes) → judged 𝕋 rs ≡ judgedFrom 𝕋 true (𝕋 .version (firstOf rs)) faultless unknown zeros rs
+  judged-asked : (rs : List Bytes) → judged 𝕋 rs ≡ judgedFrom 𝕋 true (𝕋 .version (firstOf rs)) faultless unknown noneCounted rs
   unfolding judged judgedFrom
   judged-asked rs = refl
 
-  placed-unasked : (rs : List Bytes) → placed 𝕋 rs ≡ judgedFrom 𝕋 false (𝕋 .version (firstOf rs)) faultless unknown zeros rs
+  placed-unasked : (rs : List Bytes) → placed 𝕋 rs ≡ judgedFrom 𝕋 false (𝕋 .version (firstOf rs)) faultless unknown noneCounted rs
   unfolding placed judgedFrom
   placed-unasked rs = rw never
 
   -- the answer of a file within the size of 3, from its start
   abbrev pub whole : Bool → Bytes → Answer
-  whole asked f = restFrom 𝕋 asked (𝕋 .version (firstOf (recordsIn (lines f)))) unknown zeros f
+  whole asked f = restFrom 𝕋 asked (𝕋 .version (firstOf (recordsIn (lines f)))) unknown noneCounted f
 
   whole-of : (asked : Bool) (judge : List Bytes → Answer)
-      → ((rs : List Bytes) → judge rs ≡ judgedFrom 𝕋 asked (𝕋 .version (firstOf rs)) faultless unknown zeros rs)
+      → ((rs : List Bytes) → judge rs ≡ judgedFrom 𝕋 asked (𝕋 .version (firstOf rs)) faultless unknown noneCounted rs)
       → (f : Bytes) → ofFile judge f ≡ refusal 3 (unless (leb (length f) mostBytes) 0) (whole asked f)
   unfolding linesFrom
   whole-of asked judge k f = ap (refusal 3 (unless (leb (length f) mostBytes) 0)) (go (lines f))
     where
-      go : (ls : Lines) → ofLines judge ls ≡ linesFrom 𝕋 asked (𝕋 .version (firstOf (recordsIn ls))) unknown zeros ls
+      go : (ls : Lines) → ofLines judge ls ≡ linesFrom 𝕋 asked (𝕋 .version (firstOf (recordsIn ls))) unknown noneCounted ls
       go (bad n) = ap (refused 4) (omega arith)
       go (good rs) = rw (k rs, zero-add)
 

@@ -100,4 +100,4 @@ module _ (r : Bytes) (row : Row) (its : row ≡ rowFor (take 3 r)) where
       let t = is-T (typed cwr22 r) e in
       let k = left (known (cls cwr22 r)) (eqb (length r) (cwr22 .len (take 3 r))) t in
       let l = eqb→eq (length r) (cwr22 .len (take 3 r)) (right (known (cls cwr22 r)) (eqb (length r) (cwr22 .len (take 3 r))) t) in
-      rw row-class (omega (arith, cwr22 .room (take 3 r) k, l))
+      rw row-class (omega (arith, cwr22 .inside (take 3 r) k, l))

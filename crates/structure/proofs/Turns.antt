@@ -13,7 +13,7 @@ use borrow.Author.Tests.{eq-eqb, ne-eqb}
 use Rattle.format.specs.Bytes.{Bytes, every, isText, sameBytes, beginsPair}
 use Rattle.format.specs.Table.{Class}
 use Rattle.format.specs.Cwr22.{cwr22}
-use Rattle.format.specs.Checks.{Counts, zeros, count, classAt, cls, typed, mayFollow, slot, expected, closes, numbered, ok8, ok9}
+use Rattle.format.specs.Checks.{Counts, noneCounted, count, classAt, cls, typed, mayFollow, slot, expected, closes, rightlyNumbered, ok8, ok9}
 use Rattle.format.specs.Structure.{unless}
 use Rattle.kinds.specs.Rows.{kinds, rowFor, typeOf}
 use Rattle.kinds.specs.declared.Row.{Row}
@@ -100,11 +100,11 @@ module _ (r : Bytes) (row : Row) (its : row ≡ rowFor (take 3 r)) (asked : Bool
   faults-more f follows held a b x y z =
       let c = row-class r row its in
       let s : f .seven ≡ orElse (m .seven) (unless (mayFollow p (cls cwr22 r)) (n .records)) = x ∙ rw (a, c) in
-      let h : held ≡ (not asked || numbered cwr22 n r) = b ∙ rw c in
+      let h : held ≡ (not asked || rightlyNumbered cwr22 n r) = b ∙ rw c in
       let e : f .eight ≡ orElse (m .eight) (unless (not asked || ok8 cwr22 n r) (n .records)) =
-      y ∙ rw (row-code r row its, h, or-swap (closes (cls cwr22 r)) (not asked) (numbered cwr22 n r)) in
+      y ∙ rw (row-code r row its, h, or-swap (closes (cls cwr22 r)) (not asked) (rightlyNumbered cwr22 n r)) in
       let g : f .nine ≡ orElse (m .nine) (unless (not asked || ok9 cwr22 n r) (n .records)) =
-      z ∙ rw (row-code r row its, h, or-swap (not (closes (cls cwr22 r))) (not asked) (numbered cwr22 n r)) in
+      z ∙ rw (row-code r row its, h, or-swap (not (closes (cls cwr22 r))) (not asked) (rightlyNumbered cwr22 n r)) in
       faults s e g
     where
       faults : {a b c d e g : Option ℕ} → a ≡ b → c ≡ d → e ≡ g
@@ -151,7 +151,7 @@ module _ (f : Bytes) (asked : Bool) (s : Stand) (row : Row) where
 pub bounded-start : (f : Bytes) (n : CodeCounts) → Kept n → n .records ≡ 0 → Bounded f (record { at = 0; place = 6; counts = n })
 bounded-start f n w z = record { inside = omega arith; place = omega arith; kept = w; few = omega (arith, z) }
 
-pub stood-start : (f : Bytes) (asked : Bool) (n : CodeCounts) → tally n ≡ zeros → Kept n → n .records ≡ 0
+pub stood-start : (f : Bytes) (asked : Bool) (n : CodeCounts) → tally n ≡ noneCounted → Kept n → n .records ≡ 0
     → Stood f asked (record { at = 0; place = 6; counts = n })
 stood-start f asked n e w z = record { bounded = bounded-start f n w z; rest = λ version. rw e }
 

@@ -11,7 +11,7 @@ use Rattle.format.specs.Bytes.{Bytes}
 use Rattle.format.specs.Table.{Class, unknown}
 use Rattle.format.specs.Cwr22.{cwr22, rows22, version22}
 use Rattle.format.specs.Lines.{Lines, good, bad, lines}
-use Rattle.format.specs.Checks.{Counts, zeros}
+use Rattle.format.specs.Checks.{Counts, noneCounted}
 use Rattle.format.specs.Structure.{Answer, refused, refusal, unless, mostBytes, mostRecords, firstOf, structure}
 use Rattle.format.specs.Numbering.{numbering, recordsIn}
 use Rattle.format.proofs.Tests.{by-cases}
@@ -68,14 +68,14 @@ version-any asked v w p n (bad k) e = refl
 
 module _ (f : Bytes) (asked : Bool) where
   abbrev rest : Answer
-  rest = restFrom cwr22 asked (version22 (take (textLength f) f)) unknown zeros f
+  rest = restFrom cwr22 asked (version22 (take (textLength f) f)) unknown noneCounted f
 
   whole-rest : whole cwr22 asked f ≡ rest
   unfolding rows22
   whole-rest =
       by-cases (isGood (lines f))
-      (λ e. ap (λ (r : Bytes). restFrom cwr22 asked (version22 r) unknown zeros f) (first-line f e))
-      (version-any asked (version22 (firstOf (recordsIn (lines f)))) (version22 (take (textLength f) f)) unknown zeros (lines f))
+      (λ e. ap (λ (r : Bytes). restFrom cwr22 asked (version22 r) unknown noneCounted f) (first-line f e))
+      (version-any asked (version22 (firstOf (recordsIn (lines f)))) (version22 (take (textLength f) f)) unknown noneCounted (lines f))
 
   -- 3, and the rest, are what is asked for: the structural check, or what numbering asks
   asked-for : cond asked (structure cwr22 f) (numbering cwr22 f) ≡ refusal 3 (unless (leb (length f) mostBytes) 0) (whole cwr22 asked f)
@@ -89,5 +89,5 @@ module _ (f : Bytes) (asked : Bool) where
   whole-long h = sym (asked-for ∙ rw (lt-leb (length f) mostBytes h))
 
   pub whole-fits : length f ≤ mostBytes
-      → restFrom cwr22 asked (version22 (take (textLength f) f)) unknown zeros f ≡ cond asked (structure cwr22 f) (numbering cwr22 f)
+      → restFrom cwr22 asked (version22 (take (textLength f) f)) unknown noneCounted f ≡ cond asked (structure cwr22 f) (numbering cwr22 f)
   whole-fits h = sym (asked-for ∙ rw (le-leb (length f) mostBytes h) whole-rest)

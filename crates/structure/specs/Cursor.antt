@@ -8,9 +8,8 @@ use Rattle.format.specs.Bytes.{Bytes}
 use Rattle.format.specs.Table.{Class}
 use Rattle.format.specs.Cwr22.{cwr22}
 use Rattle.format.specs.Lines.{lines}
-use Rattle.format.specs.Checks.{check6, check7, cls, mayFollow, classAt}
+use Rattle.format.specs.Checks.{check6, check7, cls, mayFollow, classAt, Along, AlongFrom}
 use Rattle.format.specs.Numbering.{recordsIn}
-use Rattle.format.proofs.Passes.{Along, AlongFrom}
 use Rattle.kinds.specs.declared.Row.{Row}
 use Rattle.kinds.specs.Rows.{rowFor}
 use Rattle.structure.specs.Rest.{isGood}

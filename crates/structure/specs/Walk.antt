@@ -7,7 +7,7 @@ use lib.ListN.{length, take, drop}
 use Rattle.format.specs.Bytes.{Bytes, sameBytes, every, isText, beginsPair}
 use Rattle.format.specs.Table.{at, width, unknown}
 use Rattle.format.specs.Cwr22.{cwr22}
-use Rattle.format.specs.Checks.{classAt, zeros, count, mayFollow, slot, expected}
+use Rattle.format.specs.Checks.{classAt, noneCounted, count, mayFollow, slot, expected}
 use Rattle.kinds.specs.Rows.{typeOf}
 use Rattle.kinds.specs.declared.Row.{Row}
 use Rattle.numbers.specs.Tally.{tally, Kept}
@@ -32,7 +32,7 @@ pub record Bounded (f : Bytes) (s : Stand) : Type 0 where
 pub record Stood (f : Bytes) (asked : Bool) (s : Stand) : Type 0 where
   pub bounded : Bounded f s
   pub rest : (version : Bool)
-      → restFrom cwr22 asked version (classAt (s .place)) (tally (s .counts)) (drop (s .at) f) ≡ restFrom cwr22 asked version unknown zeros f
+      → restFrom cwr22 asked version (classAt (s .place)) (tally (s .counts)) (drop (s .at) f) ≡ restFrom cwr22 asked version unknown noneCounted f
 
 -- the record of that row which stands there is whole, and right in all that is asked
 pub record RightAt (f : Bytes) (asked : Bool) (s : Stand) (r : Row) : Type 0 where

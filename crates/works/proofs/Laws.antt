@@ -10,10 +10,9 @@ use borrow.Author.Tests.{leb-true}
 use Rattle.format.specs.Bytes.{Bytes, every}
 use Rattle.format.specs.Table.{Class, head, detail, trl, Row as FormatRow, row, lenOf}
 use Rattle.format.specs.Cwr22.{rows22, cwr22}
-use Rattle.format.specs.Checks.{is, cls, check7}
+use Rattle.format.specs.Checks.{is, cls, check7, AlongFrom}
 use Rattle.format.specs.Structure.{firstOf}
 use Rattle.format.proofs.Logic.{All-append}
-use Rattle.format.proofs.Passes.{AlongFrom}
 use Rattle.rules.specs.Tables.{Tables}
 use Rattle.rules.specs.Findings.{ownFindings, worstFrom, worst}
 use Rattle.rules.specs.Works.{detailsFrom}

@@ -7,7 +7,7 @@ use lib.ListN.{take}
 use Rattle.lines.specs.Scan.{textLength}
 use Rattle.format.specs.Table.{unknown}
 use Rattle.format.specs.Cwr22.{cwr22, version22}
-use Rattle.format.specs.Checks.{zeros}
+use Rattle.format.specs.Checks.{noneCounted}
 use Rattle.structure.specs.Rest.{restFrom}
 use Rattle.structure.proofs.Whole.{whole-long, whole-fits}
 use borrow.Author.Needs.{needs}
@@ -44,7 +44,7 @@ returns-2 c =
     let n : c .before .before .before .before .text-end .result - 0 ≡ textLength (g .file .now) = omega (arith, c .before .before .before .before .text-end .ensures .0) in
     c .scan .ensures
     ∙ c .before .walk .ensures .rest (c .before .before .version .result)
-    ∙ ap (λ (v : Bool). restFrom cwr22 (g .asked) v unknown zeros (g .file .now)) (c .before .before .version .ensures ∙ ap (λ (k : ℕ). version22 (take k (g .file .now))) n)
+    ∙ ap (λ (v : Bool). restFrom cwr22 (g .asked) v unknown noneCounted (g .file .now)) (c .before .before .version .ensures ∙ ap (λ (k : ℕ). version22 (take k (g .file .now))) n)
     ∙ whole-fits (g .file .now) (g .asked) (c .before .before .before .before .before .if1 .left)
 
 pub answer-spec : {M : Type 1} → statement M
