@@ -60,15 +60,6 @@ small-count grt n h = omega arith
 small-count trl n h = omega arith
 small-count unknown n h = omega arith
 
-pub count-records : (c : Class) (n : Counts) → count n c .records ≡ suc (n .records)
-count-records hdr n = refl
-count-records grh n = refl
-count-records head n = refl
-count-records detail n = refl
-count-records grt n = refl
-count-records trl n = refl
-count-records unknown n = refl
-
 fit : (p c : Class) (n : Counts) → Slack p n → Small n → n .records ≤ mostRecords → Fit n c
 fit p hdr n s m l = tt
 fit p grh n s m l = slack-groups p n s l
@@ -82,7 +73,7 @@ fit-from : (p : Class) (n : Counts) (is : List Item) → Places p is → Slack p
 fit-from p n [] h s m l = tt
 fit-from p n (item c x ∷ is) h s m l = (
   fit p c n s m (omega arith),
-  fit-from c (count n c) is (h .1) (slack-count p c n (h .0) s) (small-count c n m) (omega (arith, count-records c n)),
+  fit-from c (count n c) is (h .1) (slack-count p c n (h .0) s) (small-count c n m) (omega arith),
 )
 
 module _ (𝕋 : Table) where

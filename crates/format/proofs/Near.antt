@@ -78,19 +78,10 @@ unfolding Within
 near n none a w h = h
 near n (some i) a w h = w
 
-count-one : (n : Counts) (c : Class) → count n c .records ≡ suc (n .records)
-count-one n hdr = refl
-count-one n grh = refl
-count-one n head = refl
-count-one n detail = refl
-count-one n grt = refl
-count-one n trl = refl
-count-one n unknown = refl
-
 module _ (𝕋 : Table) where
   count-all : (n : Counts) (rs : List Bytes) → countFrom 𝕋 n rs .records ≡ n .records + length rs
   count-all n [] = omega arith
-  count-all n (r ∷ rs) = omega (arith, count-all (count n (cls 𝕋 r)) rs, count-one n (cls 𝕋 r))
+  count-all n (r ∷ rs) = omega (arith, count-all (count n (cls 𝕋 r)) rs)
 
   module _ (rs : List Bytes) (few : length rs ≤ mostRecords) where
     checked : (K : Check) → Within mostBytes (faultOf K rs)

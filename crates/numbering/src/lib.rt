@@ -13,13 +13,13 @@ ghost use Rattle.format.specs.Cwr22.{cwr22};
 ghost use Rattle.format.specs.Checks.{classAt, expected};
 ghost use Rattle.format.specs.Numbering.{numberedFile};
 ghost use Rattle.answers.specs.Numbers.{answerOf};
-ghost use Rattle.numbers.specs.Tally.{tally, Room};
+ghost use Rattle.numbers.specs.Tally.{tally, CanGrow};
 ghost use Rattle.numbering.specs.Outcome.{numberAnswer, numberBuffer};
 ghost use Rattle.numbering.specs.Fill.{Sized};
 
 // One line, with its CR LF: copied, and its numbers written over what stood there.
 fn number_line(line: &[u8], out: &mut [u8], place: u8, counts: Counts)
-    requires { ⌜ (length (now out) ≡ length (now line)) × (Room counts) × (at (classAt place) + width (classAt place) ≤ length (now line)) ⌝ }
+    requires { ⌜ (length (now out) ≡ length (now line)) × (CanGrow counts) × (at (classAt place) + width (classAt place) ≤ length (now line)) ⌝ }
     ensures { λ _. ⌜ now (out .exit) ≡ take (at (classAt place)) (now (line .entry)) ++ expected (tally counts) (classAt place) ++ drop (at (classAt place) + width (classAt place)) (now (line .entry)) ⌝ }
 {
     bytes::copy(line, out);

@@ -2,10 +2,10 @@
 -- Assumes nothing.
 use Prim.Native.Nat.{ℕ, zero, suc, _+_}
 use native.Mathlib.Numerals.{add-one}
-use mathlib.Core.Path.{_≡_, refl}
+use mathlib.Core.Path.{_≡_, refl, _∙_}
 use mathlib.Core.List.{_++_, append-assoc}
 use Rattle.format.specs.Bytes.{decimal}
-use Rattle.format.specs.Table.{Class, hdr, trl, unknown}
+use Rattle.format.specs.Table.{Class, hdr, detail, trl, unknown}
 use Rattle.format.specs.Checks.{Counts, count, classAt}
 use Rattle.numbers.specs.Carried.{pair}
 
@@ -40,6 +40,19 @@ alike m n e =
 -- at a known place the format's rule computes
 pub counted : (m n : Counts) (p k : ℕ) → p ≡ k → Alike m (count n (classAt k)) → m ≡ count n (classAt p)
 counted m n p k e h = rw e (alike m (count n (classAt k)) h)
+
+-- a record that is neither GRH nor a header begins nothing
+same-count : (n : Counts) (p : ℕ) → (p ≡ 1 → ⊥) → (p ≡ 2 → ⊥) → count n detail ≡ count n (classAt p)
+same-count n zero n1 n2 = refl
+same-count n (suc zero) n1 n2 = absurd (n1 refl)
+same-count n (suc (suc zero)) n1 n2 = absurd (n2 refl)
+same-count n (suc (suc (suc zero))) n1 n2 = refl
+same-count n (suc (suc (suc (suc zero)))) n1 n2 = refl
+same-count n (suc (suc (suc (suc (suc zero))))) n1 n2 = refl
+same-count n (suc (suc (suc (suc (suc (suc p)))))) n1 n2 = refl
+
+pub counted-else : (m n : Counts) (p : ℕ) → (p ≡ 1 → ⊥) → (p ≡ 2 → ⊥) → Alike m (count n detail) → m ≡ count n (classAt p)
+counted-else m n p n1 n2 h = alike m (count n detail) h ∙ same-count n p n1 n2
 
 -- GRT and TRL count themselves
 pub totals : (g t r : ℕ) → decimal 5 g ++ pair t (r + 1) ≡ decimal 5 g ++ decimal 8 t ++ decimal 8 (suc r)

@@ -6,6 +6,7 @@ use mathlib.Core.Path.{_≡_, refl, ap, _∙_}
 use mathlib.Core.Bool.{Bool, true, false, cond}
 use mathlib.Core.List.{_++_, append-assoc}
 use lib.Dec.{eqb}
+use borrow.Author.Tests.{ne-eqb}
 use Rattle.format.specs.Bytes.{Bytes, decimal}
 use Rattle.text.specs.Words.{wordOf}
 use Rattle.text.proofs.Words.{digits-kept}
@@ -38,6 +39,9 @@ picked false a b m n e f = f
 -- at a known place it is known which count grows
 pub grown-at : (x p k a b : ℕ) → p ≡ k → x ≡ wordOf (decimal 8 (cond (eqb p 2) a b + 1)) → x ≡ wordOf (decimal 8 (cond (eqb k 2) a b + 1))
 grown-at x p k a b e f = f ∙ ap (λ (q : ℕ). wordOf (decimal 8 (cond (eqb q 2) a b + 1))) e
+
+pub grown-else : (x p a b : ℕ) → (p ≡ 2 → ⊥) → x ≡ wordOf (decimal 8 (cond (eqb p 2) a b + 1)) → x ≡ wordOf (decimal 8 (b + 1))
+grown-else x p a b n2 f = f ∙ rw (ne-eqb p 2 n2)
 
 -- a header's number is its details' number
 pub one-before : (x n : ℕ) → x ≡ wordOf (decimal 8 n) → x ≡ wordOf (decimal 8 (pred (n + 1)))

@@ -37,5 +37,5 @@ abbrev pub tooMany : ℕ
 tooMany = 2 ^ 32
 
 -- no counter can wrap
-abbrev pub Room : Counts → Type 0
-Room n = Kept n × (n .records < tooMany)
+abbrev pub CanGrow : Counts → Type 0
+CanGrow n = Kept n × (n .records < tooMany)

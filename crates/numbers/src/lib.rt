@@ -14,7 +14,7 @@ ghost use Rattle.format.specs.Fields.{fieldOf};
 ghost use Rattle.format.specs.Table.{at, width};
 ghost use Rattle.format.specs.Checks.{noneCounted, count, classAt, slot, expected};
 ghost use Rattle.text.specs.Words.{wordOf, bytesOf};
-ghost use Rattle.numbers.specs.Tally.{tally, Written, Kept, Room};
+ghost use Rattle.numbers.specs.Tally.{tally, Written, Kept, CanGrow};
 ghost use Rattle.numbers.specs.Carried.{pair, words, digitsOf, startOf, sizeOf, over, Carried};
 
 // What was counted before a record, as the format's `Counts`.
@@ -61,7 +61,7 @@ pub enum Numbers {
 impl Counts {
     pub fn zero() -> Counts
         ensures { λ r. ⌜ tally r ≡ noneCounted ⌝ }
-        ensures { λ r. ⌜ Room r × (r .records ≡ 0) ⌝ }
+        ensures { λ r. ⌜ CanGrow r × (r .records ≡ 0) ⌝ }
     {
         Counts {
             groups: 0,
@@ -79,7 +79,7 @@ impl Counts {
 
     // With one record more, of that place.
     pub fn with(mut self, place: u8) -> Counts
-        requires { ⌜ Room self ⌝ }
+        requires { ⌜ CanGrow self ⌝ }
         ensures { λ r. ⌜ tally r ≡ count (tally self) (classAt place) ⌝ }
         ensures { λ r. ⌜ Kept r × (r .records ≡ self .records + 1) ⌝ }
     {
@@ -91,10 +91,10 @@ impl Counts {
                 self.groups += 1;
                 self.in_group = 0; // so that each group numbers its transactions anew
                 self.group_records = 1;
-                self.in_transaction = 0;
+                self.in_transaction += 1; // any record but a header counts on; none reads it before a header begins it anew
                 self.header_word = ZERO;
                 self.detail_word = ZERO;
-                self.record_word = ZERO;
+                self.record_word = next;
                 self.closing_word = TWO;
                 self
             }
@@ -109,24 +109,13 @@ impl Counts {
                 self.closing_word = closing;
                 self
             }
-            DETAIL => {
+            _ => {
                 self.group_records += 1;
                 self.in_transaction += 1;
                 self.record_word = next;
                 self.closing_word = closing;
                 self
             }
-            GRT => {
-                self.in_group = 0;
-                self.group_records = 0;
-                self.in_transaction = 0;
-                self.header_word = ZERO;
-                self.detail_word = ZERO;
-                self.record_word = ZERO;
-                self.closing_word = ONE;
-                self
-            }
-            _ => self,
         }
     }
 
@@ -144,7 +133,7 @@ impl Counts {
     // The numbers that the next record has to carry, if it is of that place. Transactions are numbered from 0: a header has how many
     // began before it, and a detail one less, since its header is counted. GRT and TRL count themselves among the records.
     pub fn numbers_for(self, place: u8) -> Numbers
-        requires { ⌜ Room self ⌝ }
+        requires { ⌜ CanGrow self ⌝ }
         ensures { λ r. ⌜ Carried (tally self) (classAt place) r ⌝ }
     {
         match place {
@@ -159,7 +148,7 @@ impl Counts {
 
     // Whether the next record, of that place, carries its numbers.
     pub fn holds(self, place: u8, record: &[u8]) -> bool
-        requires { ⌜ Room self ⌝ }
+        requires { ⌜ CanGrow self ⌝ }
         requires { ⌜ at (classAt place) + width (classAt place) ≤ length (now «record») ⌝ }
         ensures { λ r. ⌜ r ≡ sameBytes (slot (classAt place) (now («record» .entry))) (expected (tally self) (classAt place)) ⌝ }
     {
@@ -168,7 +157,7 @@ impl Counts {
 
     // Writes its numbers into the next record, of that place, which stands in out.
     pub fn put(self, place: u8, out: &mut [u8])
-        requires { ⌜ Room self ⌝ }
+        requires { ⌜ CanGrow self ⌝ }
         requires { ⌜ at (classAt place) + width (classAt place) ≤ length (now out) ⌝ }
         ensures { λ _. ⌜ now (out .exit) ≡ take (at (classAt place)) (now (out .entry)) ++ expected (tally self) (classAt place) ++ drop (at (classAt place) + width (classAt place)) (now (out .entry)) ⌝ }
     {

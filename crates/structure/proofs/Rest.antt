@@ -15,7 +15,6 @@ use Rattle.format.specs.Checks.{Check, faultFrom, Counts, noneCounted, count, c
 use Rattle.format.specs.Structure.{Answer, refused, refusal, unless, mostBytes, mostRecords, firstOf, judged, ofFile, ofLines, structure}
 use Rattle.format.specs.Numbering.{placed, numbering, recordsIn}
 use Rattle.format.proofs.Lines.{onto, lines-cons}
-use Rattle.format.proofs.Fits.{count-records}
 use Rattle.structure.specs.Rest.{orElse, Faults, faultless, asked8, asked9, judgedFrom, linesFrom, restFrom, moreFaults, atEnd}
 
 -- ---- one check, one record more
@@ -44,7 +43,7 @@ module _ (𝕋 : Table) (asked version : Bool) where
       → judgedFrom 𝕋 asked version m p n (r ∷ rs) ≡ judgedFrom 𝕋 asked version (moreFaults 𝕋 asked m p n r) (cls 𝕋 r) (count n (cls 𝕋 r)) rs
   unfolding judgedFrom moreFaults
   judged-turn m p n r rs t =
-      rw (t, turn (check7 𝕋) p (n .records) r rs (m .seven), turn (asked8 𝕋 asked) n (n .records) r rs (m .eight), turn (asked9 𝕋 asked) n (n .records) r rs (m .nine), count-records (cls 𝕋 r) n)
+      rw (t, turn (check7 𝕋) p (n .records) r rs (m .seven), turn (asked8 𝕋 asked) n (n .records) r rs (m .eight), turn (asked9 𝕋 asked) n (n .records) r rs (m .nine))
 
   pub judged-type : (m : Faults) (p : Class) (n : Counts) (r : Bytes) (rs : List Bytes) → typed 𝕋 r ≡ false
       → judgedFrom 𝕋 asked version m p n (r ∷ rs) ≡ refused 6 (n .records)
@@ -73,9 +72,9 @@ module _ (𝕋 : Table) (asked version : Bool) where
           rw (s, asked-less (not asked) (closes (cls 𝕋 r)) (rightlyNumbered 𝕋 n r) q, asked-less (not asked) (not (closes (cls 𝕋 r))) (rightlyNumbered 𝕋 n r) q)
 
       go : (ls : Lines) → linesFrom 𝕋 asked version p n (onto (r ∷ []) ls) ≡ linesFrom 𝕋 asked version (cls 𝕋 r) (count n (cls 𝕋 r)) ls
-      go (bad k) = ap (refused 4) (omega (arith, count-records (cls 𝕋 r) n))
+      go (bad k) = ap (refused 4) (omega arith)
       go (good rs) =
-          let e : n .records + suc (length rs) ≡ count n (cls 𝕋 r) .records + length rs = omega (arith, count-records (cls 𝕋 r) n) in
+          let e : n .records + suc (length rs) ≡ count n (cls 𝕋 r) .records + length rs = omega arith in
           rw (e, judged-turn faultless p n r rs t, no-fault)
 
   pub rest-end : (p : Class) (n : Counts)

@@ -26,7 +26,7 @@ ghost use Rattle.format.specs.Structure.{unless, mostBytes, structure};
 ghost use Rattle.format.specs.Numbering.{numbering, recordsIn};
 ghost use Rattle.answers.specs.Numbers.{answerOf};
 ghost use Rattle.kinds.specs.Rows.{rowFor};
-ghost use Rattle.numbers.specs.Tally.{tally, Kept, Room};
+ghost use Rattle.numbers.specs.Tally.{tally, Kept, CanGrow};
 ghost use Rattle.structure.specs.Rest.{orElse, faultless, judgedFrom, restFrom, moreFaults, atEnd, isGood};
 ghost use Rattle.structure.specs.Walk.{Roomy, Bounded, Stood, RightAt, Next, met, faultsOf};
 
@@ -90,7 +90,7 @@ pub fn behind(s: Stand, length: u16, place: u8) -> Stand
 
 // Whether the record carries its numbers, where they are asked for.
 fn numbered(asked: bool, counts: Counts, place: u8, record: &[u8]) -> bool
-    requires { ⌜ (Room counts) × (at (classAt place) + width (classAt place) ≤ length (now «record»)) ⌝ }
+    requires { ⌜ (CanGrow counts) × (at (classAt place) + width (classAt place) ≤ length (now «record»)) ⌝ }
     ensures { λ r. ⌜ r ≡ (not asked || sameBytes (slot (classAt place) (now («record» .entry))) (expected (tally counts) (classAt place))) ⌝ }
 {
     if asked {

@@ -1,10 +1,7 @@
 -- `numbers::Counts::with` meets its contract: each arm knows its place, and changes what the format changes there.
 -- Assumes nothing.
-use mathlib.Core.Path.{_≡_, refl, _∙_}
-use Rattle.format.specs.Checks.{one, count}
-use Rattle.numbers.specs.Tally.{tally}
-use Rattle.numbers.proofs.Places.{other, alike, counted}
-use Rattle.numbers.proofs.Words.{zero-word, one-word, two-word, grown-at, one-before}
+use Rattle.numbers.proofs.Places.{counted, counted-else}
+use Rattle.numbers.proofs.Words.{zero-word, one-word, two-word, grown-at, grown-else, one-before}
 use native.Mathlib.Omega.{arith}
 use borrow.Author.Needs.{needs}
 use Rattle.numbers.proofs.Counts.with.Statement.{statement}
@@ -40,8 +37,16 @@ add-self-6 c = search needs
 add-self-7 : tie.Need-add-self-7
 add-self-7 c = search needs
 
+add-self-8 : tie.Need-add-self-8
+add-self-8 c = search needs
+
 returns : tie.Need-returns
-returns c = (counted _ _ _ 1 (c .before .match .keys1) (omega arith), ((omega arith, (zero-word, zero-word, zero-word, two-word)), omega arith))
+returns c =
+    let at = c .before .before in
+    let g = at .before .before .before .before .before in
+    let n = g .args .self in
+    let next = grown-at _ (g .args .place) 1 (n .«in_group») (n .«in_transaction») (at .match .keys1) (at .before .before .before .before .grown .ensures) in
+    (counted _ _ _ 1 (at .match .keys1) (omega arith), ((omega arith, (zero-word, zero-word, next, two-word)), omega arith))
 
 returns-2 : tie.Need-returns-2
 returns-2 c =
@@ -56,22 +61,13 @@ returns-2 c =
 returns-3 : tie.Need-returns-3
 returns-3 c =
     let at = c .before .before in
+    let ne = at .match .rest in
     let g = at .before .before .before .before .before in
     let n = g .args .self in
-    let next = grown-at _ (g .args .place) 3 (n .«in_group») (n .«in_transaction») (at .match .keys3) (at .before .before .before .before .grown .ensures) in (
-      counted _ _ _ 3 (at .match .keys3) (omega arith),
+    let next = grown-else _ (g .args .place) (n .«in_group») (n .«in_transaction») (ne .1) (at .before .before .before .before .grown .ensures) in (
+      counted-else _ _ (g .args .place) (ne .0 .1) (ne .1) (omega arith),
       ((omega arith, (g .pre .0 .1 .0, g .pre .0 .1 .1, next, at .before .before .next-eight .ensures)), omega arith),
     )
-
-returns-4 : tie.Need-returns-4
-returns-4 c = (counted _ _ _ 4 (c .match .keys4) (omega arith), ((omega arith, (zero-word, zero-word, zero-word, one-word)), omega arith))
-
-returns-5 : tie.Need-returns-5
-returns-5 c =
-    let g = c .before .before .before .before .before in
-    let n = tally (g .args .self) in
-    let ne = c .match .rest in
-    (alike _ (one n) (omega arith) ∙ other (λ k. one n ≡ count n k) (g .args .place) (ne .0 .0 .0 .1) (ne .0 .0 .1) (ne .0 .1) (ne .1) refl (λ e. refl) refl, ((omega arith, g .pre .0 .1), omega arith))
 
 pub with-spec : {M : Type 1} → statement M
 with-spec =
@@ -87,8 +83,7 @@ with-spec =
     add-self-5
     add-self-6
     add-self-7
+    add-self-8
     returns
     returns-2
-    returns-3
-    returns-4
-    returns-5)
+    returns-3)
