@@ -132,6 +132,12 @@ pub refusal-by : (P : ℕ → Type 0) (n : ℕ) (o : Option ℕ) (a : Answer) �
 refusal-by P n none a p k = k
 refusal-by P n (some i) a p k = p
 
+pub refused-by : (P : ℕ → Type 0) {a : Answer} (n i : ℕ) → By P a → a ≡ refused n i → P n
+refused-by P n i p e = subst (By P) e p
+
+pub never-both : {a : Answer} (n i k m r : ℕ) → a ≡ refused n i → a ≡ passed k m r → ⊥
+never-both n i k m r e p = let z : _≡_ {A = ℕ} 0 1 = cc in omega arith
+
 -- P of each number that the records, or the whole file, can be refused by
 module _ (𝕋 : Table) (P : ℕ → Type 0) where
   versioned-by : P 10 → (rs : List Bytes) → By P (versioned 𝕋 rs)
@@ -187,17 +193,23 @@ module _ (𝕋 : Table) where
           rw (untested 3 0 (leb (length f) mostBytes) (ofLines (judged 𝕋) (lines f)) (le→leb (length f) mostBytes (l .0)), e) tt
       go (good rs) e = rw (file-judged (judged 𝕋) f rs e l) (judged-structural rs)
 
+-- a test that refuses by another number lets what follows it decide
+module _ (n i : ℕ) (s : T (isStructural n)) where
+  other : (k j : ℕ) → (T (isStructural k) → ⊥) → refused k j ≡ refused n i → ⊥
+  other k j never e = let same : n ≡ k = cc in never (subst (λ (x : ℕ). T (isStructural x)) same s)
+
+  pub later : (k j : ℕ) (b : Bool) (a : Answer) → (T (isStructural k) → ⊥) → refusal k (unless b j) a ≡ refused n i → a ≡ refused n i
+  later k j true a never e = e
+  later k j false a never e = absurd (other k j never e)
+
 -- and where the lines are good there are none but within the size limits
 module _ (judge : List Bytes → Answer) (f : Bytes) (rs : List Bytes) (e : lines f ≡ good rs) where
   pub structural-limits : (n i : ℕ) → ofFile judge f ≡ refused n i → T (isStructural n) → Limits f
   structural-limits n i q s = go (leb (length f) mostBytes) (leb (length rs) mostRecords) refl refl (rw e at q)
     where
-      other : (k j : ℕ) → refused k j ≡ refused n i → (T (isStructural k) → ⊥) → Limits f
-      other k j p never = let same : n ≡ k = cc in absurd (never (subst (λ (x : ℕ). T (isStructural x)) same s))
-
       go : (b c : Bool) → leb (length f) mostBytes ≡ b → leb (length rs) mostRecords ≡ c
           → refusal 3 (unless b 0) (refusal 5 (unless c mostRecords) (judge rs)) ≡ refused n i → Limits f
-      go false c short few p = other 3 0 p (λ x. x)
-      go true false short few p = other 5 mostRecords p (λ x. x)
+      go false c short few p = absurd (other n i s 3 0 (λ x. x) p)
+      go true false short few p = absurd (other n i s 5 mostRecords (λ x. x) p)
       go true true short few p =
           (leb→le (length f) mostBytes (is-T _ short), rw (lines-pairs f rs e) (leb→le (length rs) mostRecords (is-T _ few)))

@@ -19,7 +19,7 @@ use Rattle.format.proofs.Lines.{lines-unlines, lines-good, pairs-unline
 use Rattle.format.proofs.Passes.{Places, counted, loose-held, loose-text, loose-typed, number-loose, number-ok8, number-ok9, records-held, records-numbered, records-places, places-records, records-counted}
 use Rattle.format.proofs.Tree.{build, build-items, Shaped, places-tree, tree-places, is→eq}
 use Rattle.format.proofs.Written.{counted-items, number-items}
-use Rattle.format.proofs.Answers.{Placed, Accepted, judged-answer, answer-judged, file-judged, file-read, Structural, structure-structural, structural-limits}
+use Rattle.format.proofs.Answers.{Placed, Accepted, judged-answer, answer-judged, file-judged, file-read, never-both, Structural, structure-structural, structural-limits}
 
 firstItem : List Item → Bytes
 firstItem [] = []
@@ -151,11 +151,8 @@ module _ (𝕋 : Table) where
   only : (d e : Doc) → WellFormed 𝕋 d → WellFormed 𝕋 e → write d ≡ write e → d ≡ e
   only d e v w q = sym (docOf-write d v) ∙ ap (λ f. docOf (recordsIn (lines f))) q ∙ docOf-write e w
 
-  never-both : (f : Bytes) {g m n : ℕ} → RefusedOnStructure 𝕋 f → structure 𝕋 f ≡ passed g m n → ⊥
-  never-both f r e = let q = r .2 in let z : _≡_ {A = ℕ} 0 1 = cc in omega arith
-
   else-refused : (f : Bytes) → Limits f → RefusedOnStructure 𝕋 f ↔ (Content 𝕋 f → ⊥)
-  else-refused f l = (λ r c. never-both f r (content-passes f l c), λ none-such. go none-such (structure 𝕋 f) refl (structure-structural 𝕋 f l))
+  else-refused f l = (λ (n, i, e, _) c. never-both n i _ _ _ e (content-passes f l c), λ none-such. go none-such (structure 𝕋 f) refl (structure-structural 𝕋 f l))
     where
       go : (Content 𝕋 f → ⊥) → (a : Answer) → structure 𝕋 f ≡ a → Structural a → RefusedOnStructure 𝕋 f
       go none-such (refused n i) e k = (n, i, e, k)
@@ -163,11 +160,10 @@ module _ (𝕋 : Table) where
 
   never-otherwise : (f : Bytes) → RefusedOnStructure 𝕋 f → Content 𝕋 f → ⊥
   unfolding structure
-  never-otherwise f r c =
-      let (n, i, e, s) = r in
+  never-otherwise f (n, i, e, s) c =
       let (d, w, q) = c in
       let l = structural-limits (judged 𝕋) f (written d) (rw q at (write-lines d w)) n i e s in
-      never-both f r (content-passes f l c)
+      never-both n i _ _ _ e (content-passes f l c)
 
   pub demand3 : Demand3 𝕋
   demand3 =

@@ -13,5 +13,6 @@ pub mod Walks
 pub mod Numbering
 pub mod Fits
 pub mod Near
+pub mod Lent
 pub mod At22
 pub mod Examples

@@ -14,7 +14,7 @@ use Rattle.rules.specs.Header.{is16, is17, is18, is19, is20, is21, is22,
 use Rattle.rules.specs.Publisher.{typeInForce, earlierE, is25, is26, is27, is28, is29, is30, is31, is32, is33, is34, is35, is36, is37}
 use Rattle.rules.specs.Writer.{designationInForce, is38, is39, is40, is41, is42}
 use Rattle.rules.specs.Other.{is24, is43, dateInForce, durationInForce, is44, is45, is46}
-use Rattle.rules.specs.Findings.{ownFindings}
+use Rattle.rules.specs.Findings.{fieldFindings, ownFindings}
 use Rattle.rules.specs.Totals.{publishersTotal, writersTotal, is1, is2, is3}
 use Rattle.rules.specs.Writers.{is4, is5, is6, is7, is10}
 use Rattle.rules.specs.Order.{taken, reached, is8}
@@ -111,5 +111,5 @@ examples =
     ∷ []
 
 all-examples : map computed examples ≡ map said examples
-unfolding examples computed said numbersFrom nothing only whole owner half spu rec nwr writer publisher header made transactionFindings headerFindings ownFindings is0 is1 is2 is3 is4 is5 is6 is7 is8 is9 is10 is11 is12 is13 is14 is15 is16 is17 is18 is19 is20 is21 is22 is23 is24 is25 is26 is27 is28 is29 is30 is31 is32 is33 is34 is35 is36 is37 is38 is39 is40 is41 is42 is43 is44 is45 is46 fieldOf isBlank areDigits numberOf isIn entries areZeros isDate daysIn isDuration isIswc iswcSum shareOf badShare typeInForce earlierE designationInForce dateInForce durationInForce publishersTotal writersTotal taken reached spots stages begins chain
+unfolding examples computed said numbersFrom nothing only whole owner half spu rec nwr writer publisher header made transactionFindings headerFindings fieldFindings ownFindings is0 is1 is2 is3 is4 is5 is6 is7 is8 is9 is10 is11 is12 is13 is14 is15 is16 is17 is18 is19 is20 is21 is22 is23 is24 is25 is26 is27 is28 is29 is30 is31 is32 is33 is34 is35 is36 is37 is38 is39 is40 is41 is42 is43 is44 is45 is46 fieldOf isBlank areDigits numberOf isIn entries areZeros isDate daysIn isDuration isIswc iswcSum shareOf badShare typeInForce earlierE designationInForce dateInForce durationInForce publishersTotal writersTotal taken reached spots stages begins chain
 all-examples = refl

@@ -1,21 +1,21 @@
 -- What is claimed of the outcome of a check (specs/Claims) holds. Assumes nothing.
 use Prim.Native.Nat.{ℕ, _*_, _≤_}
 use native.Mathlib.Omega.{arith}
-use mathlib.Core.Path.{_≡_, refl, sym, ap, _∙_, subst}
+use mathlib.Core.Path.{_≡_, refl, sym, ap, _∙_}
 use mathlib.Core.Logic.{_≢_}
 use mathlib.Core.Bool.{Bool, true, false, false≢true}
-use lib.ListN.{length, take, drop, length-append, length-drop}
-use lib.Seq.{take-append-seam, drop-append-seam}
+use mathlib.Core.List.{[], _∷_}
+use lib.ListN.{length}
 use lib.Dec.{T, leb, leb→le, le→leb}
-use Rattle.format.specs.Bytes.{Bytes}
+use Rattle.format.specs.Bytes.{Bytes, All}
 use Rattle.format.specs.Doc.{write}
 use Rattle.format.specs.Cwr22.{cwr22}
 use Rattle.format.specs.Structure.{Answer, refused, passed, refusal, unless, structure}
-use Rattle.format.specs.Lent.{inRoom, leftIn}
-use Rattle.format.specs.Claims.{Near}
+use Rattle.format.specs.Claims.{isStructural, Near}
 use Rattle.format.proofs.Logic.{is-true, is-T, both, left, right}
-use Rattle.format.proofs.Answers.{tested, untested, By, refusal-by, structure-by}
+use Rattle.format.proofs.Answers.{tested, untested, By, refusal-by, refused-by, structure-by, never-both, later}
 use Rattle.format.proofs.Near.{near, unless-within}
+use Rattle.format.proofs.Lent.{room-passed, in-room, room-near, room-by, room-later, left-front, left-beyond, left-length}
 use Rattle.format.proofs.At22.{demand3-22, nearby-22}
 use Rattle.rules.specs.Tables.{Tables, languageSize, societySize, categorySize, rightTable}
 use Rattle.rules.specs.Values.{largestTolerance}
@@ -24,46 +24,6 @@ use Rattle.rules.specs.Outcome.{enough, answer, content, check, shortTol
 use Rattle.rules.specs.Claims.{InOrder, Checks}
 use Rattle.rules.proofs.Joined.{length-findings}
 use Rattle.rules.proofs.Each.{pairs-counted, verdicts-each, findings-each}
-
--- ---- 11, and what is left in a buffer
-
-room-passed : (enough : ℕ → Bool) (a : Answer) (k m n : ℕ) → inRoom enough a ≡ passed k m n → (a ≡ passed k m n) × T (enough n)
-room-passed enough (refused i j) k m n e = let z : _≡_ {A = ℕ} 0 1 = cc in absurd (omega arith)
-room-passed enough (passed g t r) k m n e =
-    let p = tested 11 0 (enough r) (passed g t r) k m n e in
-    let same : r ≡ n = cc (p .1) in
-    (p .1, rw same at (p .0))
-
--- room enough for as many records as are answered
-in-room : (enough : ℕ → Bool) (a : Answer) → ((k m n : ℕ) → a ≡ passed k m n → T (enough n)) → inRoom enough a ≡ a
-in-room enough (refused n i) h = refl
-in-room enough (passed g t r) h = untested 11 0 (enough r) (passed g t r) (h g t r refl)
-
-room-near : (enough : ℕ → Bool) (a : Answer) → Near a → Near (inRoom enough a)
-room-near enough (refused n i) h = h
-room-near enough (passed g t r) h = near 11 (unless (enough r) 0) (passed g t r) (unless-within (enough r) 0 (omega arith)) h
-
--- as many bytes as are new
-module _ (k m n size : ℕ) (new old : Bytes) (e : length new ≡ size) where
-  left-front : take size (leftIn (passed k m n) new old) ≡ new
-  left-front = rw (← e) (take-append-seam new (drop (length new) old))
-
-  left-beyond : drop size (leftIn (passed k m n) new old) ≡ drop size old
-  left-beyond = rw (← e) (drop-append-seam new (drop (length new) old))
-
-left-length : (a : Answer) (new old : Bytes) → ((k m n : ℕ) → a ≡ passed k m n → length new ≤ length old)
-    → length (leftIn a new old) ≡ length old
-left-length (refused n i) new old h = refl
-left-length (passed g t r) new old h =
-    omega (arith, length-append new (drop (length new) old), length-drop (length new) old, h g t r refl)
-
--- ---- one answer is not another, and its number is its own
-
-refused-by : (P : ℕ → Type 0) {a : Answer} (n i : ℕ) → By P a → a ≡ refused n i → P n
-refused-by P n i p e = subst (By P) e p
-
-never-both : {a : Answer} (n i k m r : ℕ) → a ≡ refused n i → a ≡ passed k m r → ⊥
-never-both n i k m r e p = let z : _≡_ {A = ℕ} 0 1 = cc in omega arith
 
 -- ---- the answer
 
@@ -87,6 +47,17 @@ module _ (tables : Tables) (t : ℕ) (f v g : Bytes) where
           both (leb n (length v)) (leb (8 * n) (length g))
           (le→leb n (length v) (rw same at (o .inV)))
           (le→leb (8 * n) (length g) (rw same at (o .inF)))
+
+  -- a refusal on structure is the structure's
+  structural : (n i : ℕ) → given ≡ refused n i → T (isStructural n) → structure cwr22 f ≡ refused n i
+  unfolding answer
+  structural n i e s =
+      let after = later n i s in
+      room-later n i s (enough (length v) (length g)) (structure cwr22 f)
+      (after 2 _ (rightTable categorySize (tables .categories)) _ (λ x. x)
+      (after 2 _ (rightTable societySize (tables .societies)) _ (λ x. x)
+      (after 2 _ (rightTable languageSize (tables .languages)) _ (λ x. x)
+      (after 1 0 (leb t largestTolerance) _ (λ x. x) e))))
 
   -- a place is at most 2, or it is the structure's
   given-near : Near given
@@ -139,34 +110,27 @@ module _ (tables : Tables) (t : ℕ) (f v g : Bytes) where
 -- ---- by which numbers a call is refused: by 1 where the tolerance is too large, and else by 2 to 11
 
 module _ (P : ℕ → Type 0) where
-  room-by : (room : ℕ → Bool) (a : Answer) → P 11 → By P a → By P (inRoom room a)
-  room-by room (refused n i) p h = h
-  room-by room (passed g t r) p h = refusal-by P 11 (unless (room r) 0) (passed g t r) p h
-
   test-by : (n i : ℕ) (b : Bool) (a : Answer) → (b ≡ false → P n) → By P a → By P (refusal n (unless b i) a)
   test-by n i true a p h = h
   test-by n i false a p h = p refl
 
-  answer-by : (tables : Tables) (t : ℕ) (f : Bytes) (v g : ℕ) → (leb t largestTolerance ≡ false → P 1) → ((n : ℕ) → 2 ≤ n → n ≤ 11 → P n)
-      → By P (answer tables t f v g)
+  answer-by : (tables : Tables) (t : ℕ) (f : Bytes) (v g : ℕ) → (leb t largestTolerance ≡ false → P 1)
+      → All P (2 ∷ 3 ∷ 4 ∷ 5 ∷ 6 ∷ 7 ∷ 8 ∷ 9 ∷ 10 ∷ []) → P 11 → By P (answer tables t f v g)
   unfolding answer
-  answer-by tables t f v g p1 p =
-      let p2 = p 2 (omega arith) (omega arith) in
+  answer-by tables t f v g p1 (p2, rest) p11 =
       test-by 1 0 (leb t largestTolerance) _ p1
       (refusal-by P 2 (unless (rightTable languageSize (tables .languages)) _) _ p2
       (refusal-by P 2 (unless (rightTable societySize (tables .societies)) _) _ p2
       (refusal-by P 2 (unless (rightTable categorySize (tables .categories)) _) _ p2
-      (room-by (enough v g) (structure cwr22 f) (p 11 (omega arith) (omega arith))
-      (structure-by cwr22 P (λ n low high. p n (omega arith) (omega arith)) f)))))
+      (room-by P (enough v g) (structure cwr22 f) p11 (structure-by cwr22 P rest f)))))
 
 -- the short form's tolerance is not too large
 not-by-1 : (tables : Tables) (f : Bytes) (v g : ℕ) → By (λ n. n ≢ 1) (answer tables shortTolerance f v g)
 not-by-1 tables f v g =
-    answer-by (λ n. n ≢ 1) tables shortTolerance f v g (λ e. absurd (false≢true (sym e))) (λ n low high. omega arith)
+    answer-by (λ n. n ≢ 1) tables shortTolerance f v g (λ e. absurd (false≢true (sym e))) (omega arith) (omega arith)
 
 by-1-to-11 : (tables : Tables) (t : ℕ) (f : Bytes) (v g : ℕ) → By (λ n. (1 ≤ n) × (n ≤ 11)) (answer tables t f v g)
-by-1-to-11 tables t f v g =
-    answer-by (λ n. (1 ≤ n) × (n ≤ 11)) tables t f v g (λ e. (omega arith, omega arith)) (λ n low high. (omega arith, high))
+by-1-to-11 tables t f v g = answer-by (λ n. (1 ≤ n) × (n ≤ 11)) tables t f v g (λ e. (omega arith, omega arith)) (omega arith) (omega arith)
 
 -- ---- the claims
 
@@ -179,8 +143,9 @@ checks = record {
   );
   else-refused = λ tables t f v g o l. (
     λ (n, i, e) c. let (k, m, r, p) = demand3-22 .exactly f .1 (l, c) in never-both n i k m r (sym (in-order tables t f v g o) ∙ e) p,
-    λ h. let (n, i, e, _, _) = demand3-22 .else-refused f l .1 h in (n, i, in-order tables t f v g o ∙ e),
+    λ h. let (n, i, e, _) = demand3-22 .else-refused f l .1 h in (n, i, in-order tables t f v g o ∙ e),
   );
+  never-otherwise = λ tables t f v g n i e s. demand3-22 .never-otherwise f (n, i, structural tables t f v g n i e s, s);
   counts = λ tables t d v g o l w. in-order tables t (write d) v g o ∙ demand3-22 .counts d w l;
   no-other = λ tables t f v g (k, m, n, e).
       let (o, p) = passed-order tables t f v g k m n e in

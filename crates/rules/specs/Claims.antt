@@ -4,12 +4,13 @@ use mathlib.Core.Path.{_≡_}
 use mathlib.Core.Bool.{true}
 use mathlib.Core.Logic.{_↔_, _≢_}
 use lib.ListN.{length, take, drop}
+use lib.Dec.{T}
 use Rattle.format.specs.Bytes.{Bytes, pairs}
 use Rattle.format.specs.Doc.{Doc, write}
 use Rattle.format.specs.Cwr22.{cwr22}
 use Rattle.format.specs.WellFormed.{WellFormed}
 use Rattle.format.specs.Structure.{passed, refused}
-use Rattle.format.specs.Claims.{Limits, Content, lengths, Near}
+use Rattle.format.specs.Claims.{Limits, Content, lengths, isStructural, Near}
 use Rattle.rules.specs.Tables.{Tables, languageSize, societySize, categorySize, rightTable}
 use Rattle.rules.specs.Values.{largestTolerance}
 use Rattle.rules.specs.Verdicts.{findingBytes, fileFindings, fileVerdicts}
@@ -25,7 +26,7 @@ pub record InOrder (tables : Tables) (t : ℕ) (f v g : Bytes) : Type 0 where
   pub inF : 8 * pairs f ≤ length g
 
 abbrev pub Passes : Outcome → Type 0
-Passes o = (g : ℕ) × (t : ℕ) × (n : ℕ) × (o .answer ≡ passed g t n)
+Passes o = (g : ℕ) × (m : ℕ) × (n : ℕ) × (o .answer ≡ passed g m n)
 
 abbrev pub Refused : Outcome → Type 0
 Refused o = (n : ℕ) × (i : ℕ) × (o .answer ≡ refused n i)
@@ -37,6 +38,9 @@ pub record Checks : Type 0 where
   -- is refused exactly when there is none,
   pub else-refused : (tables : Tables) (t : ℕ) (f v g : Bytes) → InOrder tables t f v g → Limits f
       → Refused (check tables t f v g) ↔ (Content cwr22 f → ⊥)
+  -- by a number of structure never otherwise, whatever else is lent and however long the file is,
+  pub never-otherwise : (tables : Tables) (t : ℕ) (f v g : Bytes) (n i : ℕ) → check tables t f v g .answer ≡ refused n i → T (isStructural n)
+      → Content cwr22 f → ⊥
   -- and the counts are the lengths of that one list
   pub counts : (tables : Tables) (t : ℕ) (d : Doc) (v g : Bytes) → InOrder tables t (write d) v g → Limits (write d) → WellFormed cwr22 d
       → check tables t (write d) v g .answer ≡ lengths d

@@ -1,10 +1,11 @@
 -- The findings as sets, and the level of each.
 use Prim.Native.Nat.{ℕ, zero, suc, _+_, _*_, _/_, _%_}
-use mathlib.Core.Bool.{Bool, false, cond, _||_}
+use mathlib.Core.Bool.{Bool, false, cond}
+use mathlib.Core.Option.{Option, none, some}
 use mathlib.Core.List.{List, [], _∷_, _++_}
 use lib.Dec.{leb, eqb}
 use lib.ListN.{replicate}
-use Rattle.format.specs.Bytes.{Bytes}
+use Rattle.format.specs.Bytes.{Bytes, isOneOf}
 use Rattle.rules.specs.Tables.{Tables}
 use Rattle.rules.specs.Header.{is16, is17, is18, is19, is20, is21, is22, is23}
 use Rattle.rules.specs.Publisher.{is25, is26, is27, is28, is29, is30, is31, is32, is33, is34, is35, is36, is37}
@@ -14,15 +15,14 @@ use Rattle.rules.specs.Other.{is24, is43, is44, is45, is46}
 -- ---- a set of findings: whether finding n holds stands at place n
 
 -- the findings 16 to 46 of a record, given the records before it in its transaction
-unfoldable pub ownFindings : Tables → List Bytes → Bytes → List Bool
-ownFindings t before r =
-    replicate 16 false
-    ++ is16 r
-    ∷ is17 t r
+unfoldable pub fieldFindings : Tables → List Bytes → Bytes → List Bool
+fieldFindings tables before r =
+    is16 r
+    ∷ is17 tables r
     ∷ is18 r
     ∷ is19 r
     ∷ is20 r
-    ∷ is21 t r
+    ∷ is21 tables r
     ∷ is22 r
     ∷ is23 r
     ∷ is24 r
@@ -37,7 +37,7 @@ ownFindings t before r =
     ∷ is33 r
     ∷ is34 r
     ∷ is35 r
-    ∷ is36 t r
+    ∷ is36 tables r
     ∷ is37 r
     ∷ is38 r
     ∷ is39 r
@@ -49,6 +49,10 @@ ownFindings t before r =
     ∷ is45 r
     ∷ is46 r
     ∷ []
+
+-- the set of a detail: 0 to 15 stand on headers alone
+unfoldable pub ownFindings : Tables → List Bytes → Bytes → List Bool
+ownFindings tables before r = replicate 16 false ++ fieldFindings tables before r
 
 -- as a number: bit n for finding n
 unfoldable pub setOf : List Bool → ℕ
@@ -81,17 +85,15 @@ lowestOf (b ∷ bs) = cond b 0 (suc (lowestOf bs))
 pub data Level : Type 0 where
   FR RR TR GR : Level
 
-abbrev pub isOneOf : ℕ → List ℕ → Bool
-isOneOf n [] = false
-isOneOf n (k ∷ ks) = eqb n k || isOneOf n ks
-
--- the one definition from a finding to its level
-unfoldable pub level : ℕ → Level
+-- the one definition from a finding to its level; what is not named here is no finding
+unfoldable pub level : ℕ → Option Level
 level n =
-    cond (isOneOf n (0 ∷ [])) GR
-    (cond (isOneOf n (24 ∷ 43 ∷ 44 ∷ [])) RR
-    (cond (isOneOf n (19 ∷ 20 ∷ 23 ∷ 33 ∷ 34 ∷ 35 ∷ 36 ∷ 37 ∷ 40 ∷ 45 ∷ 46 ∷ [])) FR
-    TR))
+    cond (isOneOf n (0 ∷ [])) (some GR)
+    (cond (isOneOf n (1 ∷ 2 ∷ 3 ∷ 4 ∷ 5 ∷ 6 ∷ 7 ∷ 8 ∷ 9 ∷ 10 ∷ 11 ∷ 12 ∷ 13 ∷ 14 ∷ 15 ∷ [])) (some TR)
+    (cond (isOneOf n (16 ∷ 17 ∷ 18 ∷ 21 ∷ 22 ∷ 25 ∷ 26 ∷ 27 ∷ 28 ∷ 29 ∷ 30 ∷ 31 ∷ 32 ∷ 38 ∷ 39 ∷ 41 ∷ 42 ∷ [])) (some TR)
+    (cond (isOneOf n (24 ∷ 43 ∷ 44 ∷ [])) (some RR)
+    (cond (isOneOf n (19 ∷ 20 ∷ 23 ∷ 33 ∷ 34 ∷ 35 ∷ 36 ∷ 37 ∷ 40 ∷ 45 ∷ 46 ∷ [])) (some FR)
+    none))))
 
 -- ---- verdicts
 
@@ -102,13 +104,17 @@ verdict RR = 2
 verdict TR = 3
 verdict GR = 4
 
+abbrev pub verdictOf : Option Level → ℕ
+verdictOf none = 0
+verdictOf (some l) = verdict l
+
 abbrev pub larger : ℕ → ℕ → ℕ
 larger a b = cond (leb a b) b a
 
 -- the largest verdict of the findings from number n on that hold
 abbrev pub worstFrom : ℕ → List Bool → ℕ
 worstFrom n [] = 0
-worstFrom n (b ∷ bs) = larger (cond b (verdict (level n)) 0) (worstFrom (suc n) bs)
+worstFrom n (b ∷ bs) = larger (cond b (verdictOf (level n)) 0) (worstFrom (suc n) bs)
 
 unfoldable pub worst : List Bool → ℕ
 worst bs = worstFrom 0 bs

@@ -41,7 +41,7 @@ is16 r = isHeader r && isBlank (title r)
 
 -- N2, TR: language entered and not in the table
 unfoldable pub is17 : Tables → Bytes → Bool
-is17 t r = isHeader r && entered (language r) && not (isIn languageSize (t .languages) (language r))
+is17 tables r = isHeader r && entered (language r) && not (isIn languageSize (tables .languages) (language r))
 
 -- N3, TR: work number blank
 unfoldable pub is18 : Bytes → Bool
@@ -63,7 +63,7 @@ default20 = zeros 8
 
 -- N6, TR: category not in the table; a blank one never is
 unfoldable pub is21 : Tables → Bytes → Bool
-is21 t r = isHeader r && (isBlank (category r) || not (isIn categorySize (t .categories) (category r)))
+is21 tables r = isHeader r && (isBlank (category r) || not (isIn categorySize (tables .categories) (category r)))
 
 -- N7, TR: category SER, and duration zero or invalid
 unfoldable pub is22 : Bytes → Bool

@@ -17,7 +17,7 @@ use Rattle.rules.specs.Outcome.{answer, content}
 
 -- ---- one line
 
--- words with a space between, and LF behind the last
+-- words with a space between, and LF after the last
 abbrev pub spaced : List Bytes → Bytes
 spaced [] = 10 ∷ []
 spaced (w ∷ []) = w ++ 10 ∷ []
@@ -43,7 +43,7 @@ recordLine n r verdict set = spaced (figure n ∷ take 3 r ∷ figure verdict �
 
 unfoldable pub answerLine : Answer → Bytes
 answerLine (refused n i) = spaced (ascii "REFUSED" ∷ figure n ∷ figure i ∷ [])
-answerLine (passed g t r) = spaced (ascii "GROUPS" ∷ figure g ∷ ascii "TRANSACTIONS" ∷ figure t ∷ ascii "RECORDS" ∷ figure r ∷ [])
+answerLine (passed g m n) = spaced (ascii "GROUPS" ∷ figure g ∷ ascii "TRANSACTIONS" ∷ figure m ∷ ascii "RECORDS" ∷ figure n ∷ [])
 
 -- ---- all lines
 
@@ -54,10 +54,10 @@ recordLines n (r ∷ rs) [] ss = []
 recordLines n (r ∷ rs) (v ∷ vs) [] = []
 recordLines n (r ∷ rs) (v ∷ vs) (s ∷ ss) = recordLine n r v s ++ recordLines (suc n) rs vs ss
 
--- behind a refusal no record is listed
+-- after a refusal no record is listed
 abbrev pub listedBehind : Answer → Bytes → Bytes
 listedBehind (refused n i) text = []
-listedBehind (passed g t r) text = text
+listedBehind (passed g m n) text = text
 
 unfoldable pub listed : Tables → ℕ → Bytes → Bytes
 listed tables t f =

@@ -4,12 +4,11 @@ use mathlib.Core.Bool.{Bool, _&&_}
 use lib.Dec.{leb}
 use lib.ListN.{length}
 use Rattle.format.specs.Bytes.{Bytes}
-use Rattle.format.specs.Doc.{Doc}
 use Rattle.format.specs.Cwr22.{cwr22}
 use Rattle.format.specs.Lines.{lines}
 use Rattle.format.specs.Structure.{Answer, refusal, unless, structure}
 use Rattle.format.specs.Numbering.{recordsIn}
-use Rattle.format.specs.Tree.{tree}
+use Rattle.format.specs.Tree.{Tree, tree}
 use Rattle.format.specs.Lent.{inRoom, leftIn}
 use Rattle.rules.specs.Tables.{Tables, languageSize, societySize, categorySize, rightTable}
 use Rattle.rules.specs.Values.{largestTolerance}
@@ -29,10 +28,10 @@ answer tables t f v g =
     (inRoom (enough v g) (structure cwr22 f)))))
 
 -- the groups and transactions of a file, each record whole
-abbrev pub content : Bytes → Doc
+abbrev pub content : Bytes → Tree
 content f = tree cwr22 (recordsIn (lines f))
 
--- the answer, and the two buffers behind the call
+-- the answer, and the two buffers after the call
 pub record Outcome : Type 0 where
   pub answer : Answer
   pub verdicts : Bytes

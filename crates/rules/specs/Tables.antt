@@ -14,6 +14,9 @@ pub record Tables : Type 0 where
   pub societies : Bytes
   pub categories : Bytes
 
+abbrev pub tablesOf : Bytes → Bytes → Bytes → Tables
+tablesOf languages societies categories = record { languages = languages; societies = societies; categories = categories }
+
 abbrev pub languageSize : ℕ
 languageSize = 2
 

@@ -4,12 +4,13 @@ use mathlib.Core.Bool.{Bool, false, cond, _&&_, _||_}
 use mathlib.Core.List.{List, [], _∷_, _++_, map}
 use lib.Dec.{eqb}
 use Rattle.format.specs.Bytes.{Bytes}
-use Rattle.format.specs.Doc.{Doc, Group, Transaction}
+use Rattle.format.specs.Doc.{Group, Transaction}
+use Rattle.format.specs.Tree.{Tree}
 use Rattle.rules.specs.Tables.{Tables}
-use Rattle.rules.specs.Findings.{TR, setOf, bytesOf, level, verdict, larger, worst}
+use Rattle.rules.specs.Findings.{TR, GR, setOf, bytesOf, level, verdict, verdictOf, larger, worst}
 use Rattle.rules.specs.Works.{namedType, is0, transactionFindings}
 
--- one list behind the other
+-- one list after the other
 abbrev pub joined : {A B : Type 0} → (A → List B) → List A → List B
 joined f [] = []
 joined f (x ∷ xs) = f x ++ joined f xs
@@ -18,14 +19,14 @@ abbrev pub anyOf : {A : Type 0} → (A → Bool) → List A → Bool
 anyOf p [] = false
 anyOf p (x ∷ xs) = p x || anyOf p xs
 
--- what a buffer has for sets of findings: eight bytes each, one behind the other
+-- what a buffer has for sets of findings: eight bytes each, one after the other
 unfoldable pub findingBytes : List (List Bool) → Bytes
 findingBytes sets = joined (λ (set : List Bool). bytesOf 8 (setOf set)) sets
 
 -- some finding from number n on that holds has level TR
 abbrev pub rejectsFrom : ℕ → List Bool → Bool
 rejectsFrom n [] = false
-rejectsFrom n (b ∷ bs) = (b && eqb (verdict (level n)) (verdict TR)) || rejectsFrom (suc n) bs
+rejectsFrom n (b ∷ bs) = (b && eqb (verdictOf (level n)) (verdict TR)) || rejectsFrom (suc n) bs
 
 unfoldable pub rejects : List Bool → Bool
 rejects set = rejectsFrom 0 set
@@ -46,19 +47,19 @@ module _ (tables : Tables) (t : ℕ) where
   unfoldable pub groupFindings : Group → List (List Bool)
   groupFindings g = [] ∷ joined (transactionFindings tables t (namedType (g .opening))) (g .transactions) ++ [] ∷ []
 
-  unfoldable pub fileFindings : Doc → List (List Bool)
+  unfoldable pub fileFindings : Tree → List (List Bool)
   fileFindings d = [] ∷ joined groupFindings (d .groups) ++ [] ∷ []
 
   -- ---- verdicts: the largest of a record's own levels, ..
 
-  -- .. 3 if any record of its transaction has a TR finding, ..
+  -- .. that of TR if any record of its transaction has a TR finding, ..
   unfoldable pub transactionVerdicts : Bytes → Transaction → List ℕ
   transactionVerdicts named x =
-      raised (cond (anyOf rejects (transactionFindings tables t named x)) 3 0) (map worst (transactionFindings tables t named x))
+      raised (cond (anyOf rejects (transactionFindings tables t named x)) (verdict TR) 0) (map worst (transactionFindings tables t named x))
 
-  -- .. 4 if any header in its group has finding 0
+  -- .. that of GR if any header in its group has finding 0
   unfoldable pub groupVerdicts : Group → List ℕ
-  groupVerdicts g = raised (cond (isStray g) 4 0) (0 ∷ joined (transactionVerdicts (namedType (g .opening))) (g .transactions) ++ 0 ∷ [])
+  groupVerdicts g = raised (cond (isStray g) (verdict GR) 0) (0 ∷ joined (transactionVerdicts (namedType (g .opening))) (g .transactions) ++ 0 ∷ [])
 
-  unfoldable pub fileVerdicts : Doc → List ℕ
+  unfoldable pub fileVerdicts : Tree → List ℕ
   fileVerdicts d = 0 ∷ joined groupVerdicts (d .groups) ++ 0 ∷ []

@@ -5,7 +5,7 @@ use Prim.Native.String.{String}
 use mathlib.Core.Bool.{Bool, not, _&&_, _||_}
 use mathlib.Core.List.{List, [], _∷_, _++_}
 use lib.Dec.{ltb}
-use lib.ListN.{length, take, drop}
+use lib.ListN.{length, take}
 use Rattle.format.specs.Bytes.{Bytes, sameBytes}
 use Rattle.format.specs.Doc.{Transaction}
 use Rattle.format.specs.Fields.{fieldOf}
@@ -16,7 +16,7 @@ use Rattle.rules.specs.Totals.{is1, is2, is3}
 use Rattle.rules.specs.Writers.{is4, is5, is6, is7, is10}
 use Rattle.rules.specs.Order.{is8}
 use Rattle.rules.specs.Chains.{is11, is12, is13, is14}
-use Rattle.rules.specs.Findings.{ownFindings}
+use Rattle.rules.specs.Findings.{fieldFindings, ownFindings}
 
 -- the transaction type that a GRH names: start and size
 abbrev pub namedType : Bytes → Bytes
@@ -58,9 +58,9 @@ headerFindings tables t named x =
     ∷ is13 (x .details)
     ∷ is14 (x .details)
     ∷ is15 (x .details)
-    ∷ drop 16 (ownFindings tables [] (x .header))
+    ∷ fieldFindings tables [] (x .header)
 
--- of each detail, behind those before it
+-- of each detail, given those before it
 abbrev pub detailsFrom : Tables → List Bytes → List Bytes → List (List Bool)
 detailsFrom tables before [] = []
 detailsFrom tables before (r ∷ rs) = ownFindings tables before r ∷ detailsFrom tables (before ++ r ∷ []) rs
