@@ -10,7 +10,8 @@ use Rattle.format.specs.Bytes.{Bytes}
 use Rattle.rules.specs.Findings.{setOf, bytesOf}
 use Rattle.rules.specs.Verdicts.{findingBytes}
 use Rattle.rules.proofs.Joined.{findings-one, findings-append, length-findings}
-use Rattle.buffers.specs.Written.{splice, Written}
+use Rattle.format.specs.Lent.{splice}
+use Rattle.buffers.specs.Written.{Written}
 use Rattle.buffers.proofs.Splice.{splice-nil, set-splice, part-splice, length-splice, mid, splice-on, splice-over, splice-before}
 
 -- what is still to be written from record i on makes the buffers tv and tf

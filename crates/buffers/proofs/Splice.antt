@@ -7,7 +7,7 @@ use native.Mathlib.Omega.{arith}
 use lib.ListN.{length, take, drop, set, length-append, length-drop, take-append-drop}
 use lib.Seq.{length-take-le, take-at, drop-at, drop-append-add, drop-drop, take-take, set-split}
 use borrow.Rule.Slice.PartMut.{putMid}
-use Rattle.buffers.specs.Written.{splice}
+use Rattle.format.specs.Lent.{splice}
 
 module _ {A : Type 0} where
   pub splice-nil : (a : ℕ) (l : List A) → splice a [] l ≡ l

@@ -1,15 +1,12 @@
 -- What is written into the two lent buffers, and what is left.
 use mathlib.Core.Path.{_≡_}
 use mathlib.Core.Bool.{Bool}
-use mathlib.Core.List.{List, _++_}
+use mathlib.Core.List.{List}
 use Prim.Native.Nat.{ℕ, _+_, _*_, _≤_}
-use lib.ListN.{length, take, drop}
+use lib.ListN.{length}
 use Rattle.format.specs.Bytes.{Bytes}
+use Rattle.format.specs.Lent.{splice}
 use Rattle.rules.specs.Verdicts.{findingBytes}
-
--- a list with xs in the place of as many as they are, from a on
-unfoldable pub splice : {A : Type 0} → ℕ → List A → List A → List A
-splice a xs l = take a l ++ (xs ++ drop (a + length xs) l)
 
 -- from record i on, one entry a record: the verdicts vs went into v and the sets fs into f, which are now v' and f'. No other byte changed
 pub record Written (i : ℕ) (vs : List ℕ) (fs : List (List Bool)) (v f v' f' : Bytes) : Type 0 where

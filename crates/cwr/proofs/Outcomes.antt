@@ -12,7 +12,7 @@ use Rattle.format.specs.Table.{unknown}
 use Rattle.format.specs.Cwr22.{cwr22}
 use Rattle.format.specs.Structure.{Answer, refused, passed, mostBytes, judged, structure}
 use Rattle.format.specs.Numbering.{recordsIn}
-use Rattle.format.specs.Lent.{leftIn}
+use Rattle.format.specs.Lent.{leftIn, splice}
 use Rattle.format.proofs.Tests.{by-cases}
 use Rattle.format.proofs.Answers.{file-read, answer-judged}
 use Rattle.rules.specs.Tables.{Tables}
@@ -24,7 +24,7 @@ use Rattle.rules.proofs.Outcomes.{passed-order}
 use Rattle.answers.specs.Numbers.{isPassed}
 use Rattle.structure.specs.Cursor.{Here}
 use Rattle.structure.proofs.Cursor.{here-start}
-use Rattle.buffers.specs.Written.{splice, Written}
+use Rattle.buffers.specs.Written.{Written}
 use Rattle.works.specs.Walk.{restAt, Room}
 
 -- ---- 11

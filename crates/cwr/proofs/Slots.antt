@@ -6,7 +6,7 @@ use mathlib.Core.List.{List, _++_, append-assoc}
 use lib.ListN.{length, take, drop, length-append}
 use lib.Seq.{take-at, drop-at}
 use borrow.Rule.Slice.PartMut.{putMid}
-use Rattle.buffers.specs.Written.{splice}
+use Rattle.format.specs.Lent.{splice}
 use Rattle.buffers.proofs.Splice.{part-splice, splice-on}
 use Rattle.cwr.proofs.Outcomes.{splice-front}
 

@@ -9,7 +9,7 @@ ghost use lib.ListN.{length};
 ghost use Rattle.format.specs.Lent.{inRoom};
 ghost use Rattle.format.specs.Structure.{mostBytes};
 ghost use Rattle.format.specs.Table.{unknown};
-ghost use Rattle.rules.specs.Tables.{languageSize, societySize, categorySize, rightTable};
+ghost use Rattle.rules.specs.Tables.{languageSize, societySize, categorySize, rightTable, tablesOf};
 ghost use Rattle.rules.specs.Values.{largestTolerance};
 ghost use Rattle.rules.specs.Verdicts.{fileFindings, fileVerdicts};
 ghost use Rattle.rules.specs.Outcome.{enough, answer as Outcome·answer, content, shortTolerance};
@@ -17,7 +17,6 @@ ghost use Rattle.answers.specs.Numbers.{answerOf};
 ghost use Rattle.structure.specs.Cursor.{Here};
 ghost use Rattle.buffers.specs.Written.{Written};
 ghost use Rattle.works.specs.Walk.{restAt, Room};
-ghost use Rattle.files.specs.Levels.{tablesOf};
 ghost use Rattle.cwr.specs.Outcome.{AllIndexed};
 ghost use Rattle.cwr.specs.Promises.{Checked, Numbered, Counted, Lowest};
 

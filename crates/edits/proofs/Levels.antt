@@ -1,12 +1,13 @@
 -- A list of findings as a sum of weights, and its largest verdict by the levels that hold. Assumes nothing.
 use mathlib.Core.Path.{_≡_, refl, sym, ap, _∙_}
 use mathlib.Core.Bool.{Bool, true, false, cond, _&&_, _||_}
+use mathlib.Core.Option.{Option, none, some}
 use mathlib.Core.List.{List, [], _∷_}
 use Prim.Native.Nat.{ℕ, suc, _+_, _*_}
 use native.Mathlib.Nat.{mul-add, mul-assoc, mul-comm, mul-one, mul-zero, one-mul}
 use native.Mathlib.Omega.{arith}
 use lib.Dec.{eqb}
-use Rattle.rules.specs.Findings.{setOf, Level, FR, RR, TR, GR, level, verdict, larger, worstFrom, worst}
+use Rattle.rules.specs.Findings.{setOf, Level, FR, RR, TR, GR, level, verdictOf, larger, worstFrom, worst}
 use Rattle.rules.proofs.Verdicts.{larger-zero}
 
 pub clash : true ≡ false → ⊥
@@ -42,27 +43,30 @@ top tr rr fr = cond tr 3 (cond rr 2 (cond fr 1 0))
 -- some finding with this verdict holds, the first being number n
 abbrev pub holds : ℕ → ℕ → List Bool → Bool
 holds v n [] = false
-holds v n (b ∷ bs) = (eqb (verdict (level n)) v && b) || holds v (suc n) bs
+holds v n (b ∷ bs) = (eqb (verdictOf (level n)) v && b) || holds v (suc n) bs
 
-raised : (l : Level) (b tr rr fr : Bool) → (eqb (verdict l) 4 && b) ≡ false
-    → larger (cond b (verdict l) 0) (top tr rr fr) ≡ top ((eqb (verdict l) 3 && b) || tr) ((eqb (verdict l) 2 && b) || rr) ((eqb (verdict l) 1 && b) || fr)
-raised FR false tr rr fr h = larger-zero (top tr rr fr)
-raised FR true true rr fr h = refl
-raised FR true false true fr h = refl
-raised FR true false false true h = refl
-raised FR true false false false h = refl
-raised RR false tr rr fr h = larger-zero (top tr rr fr)
-raised RR true true rr fr h = refl
-raised RR true false true fr h = refl
-raised RR true false false true h = refl
-raised RR true false false false h = refl
-raised TR false tr rr fr h = larger-zero (top tr rr fr)
-raised TR true true rr fr h = refl
-raised TR true false true fr h = refl
-raised TR true false false true h = refl
-raised TR true false false false h = refl
-raised GR false tr rr fr h = larger-zero (top tr rr fr)
-raised GR true tr rr fr h = absurd (clash h)
+raised : (l : Option Level) (b tr rr fr : Bool) → (eqb (verdictOf l) 4 && b) ≡ false
+    → larger (cond b (verdictOf l) 0) (top tr rr fr)
+    ≡ top ((eqb (verdictOf l) 3 && b) || tr) ((eqb (verdictOf l) 2 && b) || rr) ((eqb (verdictOf l) 1 && b) || fr)
+raised none false tr rr fr h = larger-zero (top tr rr fr)
+raised none true tr rr fr h = larger-zero (top tr rr fr)
+raised (some FR) false tr rr fr h = larger-zero (top tr rr fr)
+raised (some FR) true true rr fr h = refl
+raised (some FR) true false true fr h = refl
+raised (some FR) true false false true h = refl
+raised (some FR) true false false false h = refl
+raised (some RR) false tr rr fr h = larger-zero (top tr rr fr)
+raised (some RR) true true rr fr h = refl
+raised (some RR) true false true fr h = refl
+raised (some RR) true false false true h = refl
+raised (some RR) true false false false h = refl
+raised (some TR) false tr rr fr h = larger-zero (top tr rr fr)
+raised (some TR) true true rr fr h = refl
+raised (some TR) true false true fr h = refl
+raised (some TR) true false false true h = refl
+raised (some TR) true false false false h = refl
+raised (some GR) false tr rr fr h = larger-zero (top tr rr fr)
+raised (some GR) true tr rr fr h = absurd (clash h)
 
 neither : (a b : Bool) → (a || b) ≡ false → (a ≡ false) × (b ≡ false)
 neither false b h = (refl, h)
@@ -71,7 +75,7 @@ neither true b h = absurd (clash h)
 worst-from : (n : ℕ) (bs : List Bool) → holds 4 n bs ≡ false → worstFrom n bs ≡ top (holds 3 n bs) (holds 2 n bs) (holds 1 n bs)
 worst-from n [] h = refl
 worst-from n (b ∷ bs) h =
-    let g = neither (eqb (verdict (level n)) 4 && b) (holds 4 (suc n) bs) h in
+    let g = neither (eqb (verdictOf (level n)) 4 && b) (holds 4 (suc n) bs) h in
     rw (worst-from (suc n) bs (g .1)) (raised (level n) b (holds 3 (suc n) bs) (holds 2 (suc n) bs) (holds 1 (suc n) bs) (g .0))
 
 pub worst-top : (bs : List Bool) → holds 4 0 bs ≡ false → worst bs ≡ top (holds 3 0 bs) (holds 2 0 bs) (holds 1 0 bs)

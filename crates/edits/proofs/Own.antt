@@ -11,7 +11,7 @@ use Rattle.rules.specs.Header.{is16, is17, is18, is19, is20, is21, is22, is23}
 use Rattle.rules.specs.Publisher.{is25, is26, is27, is28, is29, is30, is31, is32, is33, is34, is35, is36, is37}
 use Rattle.rules.specs.Writer.{is38, is39, is40, is41, is42}
 use Rattle.rules.specs.Other.{is24, is43, is44, is45, is46}
-use Rattle.rules.specs.Findings.{ownFindings, setOf, level, worst}
+use Rattle.rules.specs.Findings.{fieldFindings, ownFindings, setOf, level, worst}
 use Rattle.format.proofs.Tests.{by-cases}
 use Rattle.edits.proofs.Types.{not-other, not-third, or-right}
 
@@ -86,7 +86,7 @@ module _ (t : Tables) (before : List Bytes) (r : Bytes) where
   -- ---- the findings that it may have
 
   pub own-header : isHeader r ≡ true → ownFindings t before r ≡ replicate 16 false ++ is16 r ∷ is17 t r ∷ is18 r ∷ is19 r ∷ is20 r ∷ is21 t r ∷ is22 r ∷ is23 r ∷ replicate 23 false
-  unfolding ownFindings
+  unfolding fieldFindings ownFindings
   own-header h =
       let n = not-third (ascii "NWR") (ascii "REV") (take 3 r) h in
       let d = no-24 (record { ter = n (ascii "TER") refl refl; ipa = n (ascii "IPA") refl refl; npa = n (ascii "NPA") refl refl; msg = n (ascii "MSG") refl refl }) in
@@ -97,7 +97,7 @@ module _ (t : Tables) (before : List Bytes) (r : Bytes) where
       rw (d, p .0, p .1, p .2, p .3, p .4, p .5, p .6, p .7, p .8, p .9, p .10, p .11, p .12, w .0, w .1, w .2, w .3, w .4, v, c .0, c .1, c .2)
 
   pub own-publisher : isPublisher r ≡ true → ownFindings t before r ≡ replicate 25 false ++ is25 before r ∷ is26 r ∷ is27 r ∷ is28 r ∷ is29 r ∷ is30 r ∷ is31 r ∷ is32 before r ∷ is33 r ∷ is34 r ∷ is35 r ∷ is36 t r ∷ is37 r ∷ replicate 9 false
-  unfolding ownFindings
+  unfolding fieldFindings ownFindings
   own-publisher h =
       let n = not-third (ascii "SPU") (ascii "OPU") (take 3 r) h in
       let hd = no-header (record { nwr = n (ascii "NWR") refl refl; rev = n (ascii "REV") refl refl }) in
@@ -108,7 +108,7 @@ module _ (t : Tables) (before : List Bytes) (r : Bytes) where
       rw (hd .0, hd .1, hd .2, hd .3, hd .4, hd .5, hd .6, hd .7, d, w .0, w .1, w .2, w .3, w .4, v, c .0, c .1, c .2)
 
   pub own-writer : isWriter r ≡ true → ownFindings t before r ≡ replicate 38 false ++ is38 r ∷ is39 r ∷ is40 r ∷ is41 r ∷ is42 r ∷ replicate 4 false
-  unfolding ownFindings
+  unfolding fieldFindings ownFindings
   own-writer h =
       let n = not-third (ascii "SWR") (ascii "OWR") (take 3 r) h in
       let hd = no-header (record { nwr = n (ascii "NWR") refl refl; rev = n (ascii "REV") refl refl }) in
@@ -119,7 +119,7 @@ module _ (t : Tables) (before : List Bytes) (r : Bytes) where
       rw (hd .0, hd .1, hd .2, hd .3, hd .4, hd .5, hd .6, hd .7, d, p .0, p .1, p .2, p .3, p .4, p .5, p .6, p .7, p .8, p .9, p .10, p .11, p .12, v, c .0, c .1, c .2)
 
   pub own-version : (isType "EWT" r || isType "VER" r) ≡ true → ownFindings t before r ≡ replicate 43 false ++ is43 r ∷ replicate 3 false
-  unfolding ownFindings
+  unfolding fieldFindings ownFindings
   own-version h =
       let n = not-third (ascii "EWT") (ascii "VER") (take 3 r) h in
       let hd = no-header (record { nwr = n (ascii "NWR") refl refl; rev = n (ascii "REV") refl refl }) in
@@ -130,7 +130,7 @@ module _ (t : Tables) (before : List Bytes) (r : Bytes) where
       rw (hd .0, hd .1, hd .2, hd .3, hd .4, hd .5, hd .6, hd .7, d, p .0, p .1, p .2, p .3, p .4, p .5, p .6, p .7, p .8, p .9, p .10, p .11, p .12, w .0, w .1, w .2, w .3, w .4, c .0, c .1, c .2)
 
   pub own-performer : isType "PER" r ≡ true → ownFindings t before r ≡ replicate 43 false ++ is43 r ∷ replicate 3 false
-  unfolding ownFindings
+  unfolding fieldFindings ownFindings
   own-performer h =
       let hd = no-header (record { nwr = not-other (ascii "PER") (ascii "NWR") (take 3 r) h refl; rev = not-other (ascii "PER") (ascii "REV") (take 3 r) h refl }) in
       let d = no-24 (record { ter = not-other (ascii "PER") (ascii "TER") (take 3 r) h refl; ipa = not-other (ascii "PER") (ascii "IPA") (take 3 r) h refl; npa = not-other (ascii "PER") (ascii "NPA") (take 3 r) h refl; msg = not-other (ascii "PER") (ascii "MSG") (take 3 r) h refl }) in
@@ -140,7 +140,7 @@ module _ (t : Tables) (before : List Bytes) (r : Bytes) where
       rw (hd .0, hd .1, hd .2, hd .3, hd .4, hd .5, hd .6, hd .7, d, p .0, p .1, p .2, p .3, p .4, p .5, p .6, p .7, p .8, p .9, p .10, p .11, p .12, w .0, w .1, w .2, w .3, w .4, c .0, c .1, c .2)
 
   pub own-recording : isType "REC" r ≡ true → ownFindings t before r ≡ replicate 44 false ++ is44 r ∷ is45 r ∷ is46 r ∷ replicate 0 false
-  unfolding ownFindings
+  unfolding fieldFindings ownFindings
   own-recording h =
       let hd = no-header (record { nwr = not-other (ascii "REC") (ascii "NWR") (take 3 r) h refl; rev = not-other (ascii "REC") (ascii "REV") (take 3 r) h refl }) in
       let d = no-24 (record { ter = not-other (ascii "REC") (ascii "TER") (take 3 r) h refl; ipa = not-other (ascii "REC") (ascii "IPA") (take 3 r) h refl; npa = not-other (ascii "REC") (ascii "NPA") (take 3 r) h refl; msg = not-other (ascii "REC") (ascii "MSG") (take 3 r) h refl }) in
@@ -150,7 +150,7 @@ module _ (t : Tables) (before : List Bytes) (r : Bytes) where
       rw (hd .0, hd .1, hd .2, hd .3, hd .4, hd .5, hd .6, hd .7, d, p .0, p .1, p .2, p .3, p .4, p .5, p .6, p .7, p .8, p .9, p .10, p .11, p .12, w .0, w .1, w .2, w .3, w .4, v)
 
   pub own-24 : is24 r ≡ true → ownFindings t before r ≡ replicate 24 false ++ is24 r ∷ replicate 22 false
-  unfolding ownFindings
+  unfolding fieldFindings ownFindings
   own-24 h =
       let n = not-fifth r h in
       let hd = no-header (record { nwr = n (ascii "NWR") refl refl refl refl; rev = n (ascii "REV") refl refl refl refl }) in
@@ -163,7 +163,7 @@ module _ (t : Tables) (before : List Bytes) (r : Bytes) where
   -- a record of none of these types has none
   module _ (hd : NoHeader r) (d : No24 r) (p : NoPublisher r) (w : NoWriter r) (v : No43 r) (c : NoRecording r) where
     none : ownFindings t before r ≡ replicate 47 false
-    unfolding ownFindings
+    unfolding fieldFindings ownFindings
     none =
         let hs = no-header hd in
         let ps = no-publisher p in

@@ -10,15 +10,11 @@ use Rattle.format.specs.Table.{Class}
 use Rattle.format.specs.Cwr22.{cwr22}
 use Rattle.format.specs.Structure.{firstOf}
 use Rattle.format.specs.Tree.{span, after, isInside, transactionsIn}
-use Rattle.rules.specs.Tables.{Tables}
 use Rattle.rules.specs.Works.{is0}
 use Rattle.rules.specs.Verdicts.{anyOf}
 use Rattle.structure.specs.Cursor.{Here}
 use Rattle.buffers.specs.Written.{Written}
 use Rattle.works.specs.Walk.{tailOf}
-
-abbrev pub tablesOf : Bytes → Bytes → Bytes → Tables
-tablesOf languages societies categories = record { languages = languages; societies = societies; categories = categories }
 
 -- the transactions at the front of the records
 abbrev pub transactionsOf : List Bytes → List Transaction

@@ -23,7 +23,8 @@ ghost use Rattle.lookup.specs.Index.{Indexed};
 ghost use Rattle.structure.specs.Cursor.{Here};
 ghost use Rattle.buffers.specs.Written.{Written};
 ghost use Rattle.works.specs.Walk.{restAt, Room};
-ghost use Rattle.files.specs.Levels.{tablesOf, transactionsOf, groupOf, behindGroup, isStrayAmong, Judged};
+ghost use Rattle.rules.specs.Tables.{tablesOf};
+ghost use Rattle.files.specs.Levels.{transactionsOf, groupOf, behindGroup, isStrayAmong, Judged};
 
 // How long the records are that open and close a file and its groups.
 const HDR_LENGTH: usize = 167;

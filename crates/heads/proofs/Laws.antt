@@ -1,15 +1,16 @@
 -- Findings 0 to 15 before the others: their set, their levels. Assumes nothing.
 use mathlib.Core.Path.{_≡_, refl, sym, ap, _∙_}
 use mathlib.Core.Bool.{Bool, true, false, cond, _&&_, _||_, and-false, or-false}
+use mathlib.Core.Option.{none, some}
 use mathlib.Core.List.{List, [], _∷_, _++_}
 use Prim.Native.Nat.{ℕ, zero, suc, _+_, _*_, _/_, _≤_}
 use native.Mathlib.Omega.{arith}
 use lib.Dec.{leb, eqb, leb·zero, eqb·zero-suc, eqb·suc-zero, eqb·suc-suc}
-use lib.ListN.{replicate, drop}
+use lib.ListN.{replicate}
 use borrow.Author.Tests.{leb-true, leb-false, eqb-true, ne-eqb}
 use Rattle.format.specs.Bytes.{Bytes, sameBytes}
 use Rattle.rules.specs.Tables.{Tables}
-use Rattle.rules.specs.Findings.{ownFindings, setOf, FR, RR, TR, level, verdict, larger, worstFrom, worst}
+use Rattle.rules.specs.Findings.{fieldFindings, ownFindings, setOf, FR, RR, TR, level, verdictOf, larger, worstFrom, worst}
 use Rattle.rules.specs.Verdicts.{rejectsFrom, rejects}
 use Rattle.format.proofs.Tests.{by-cases}
 use Rattle.edits.specs.declared.Found.{Found}
@@ -35,7 +36,7 @@ same-as f g s b e q = e ∙ ap (λ (x : Bytes). sameBytes x s) q ∙ same-sym g 
 
 -- ---- a record's own findings begin at 16
 
-pub own-late : (tables : Tables) (before : List Bytes) (r : Bytes) → ownFindings tables before r ≡ replicate 16 false ++ drop 16 (ownFindings tables before r)
+pub own-late : (tables : Tables) (before : List Bytes) (r : Bytes) → ownFindings tables before r ≡ replicate 16 false ++ fieldFindings tables before r
 unfolding ownFindings
 own-late tables before r = refl
 
@@ -47,14 +48,17 @@ over v false x h = rw (leb·zero x)
 over v true x h = by-cases (leb v x) (λ e. rw e (omega (arith, leb-true v x e))) (λ e. rw e)
 
 -- only finding 0 has the level GR
-three-levels : (rr fr : Bool) → leb (verdict (cond rr RR (cond fr FR TR))) 3 ≡ true
-three-levels true fr = refl
-three-levels false true = refl
-three-levels false false = refl
+three-levels : (early late rr fr : Bool)
+    → leb (verdictOf (cond early (some TR) (cond late (some TR) (cond rr (some RR) (cond fr (some FR) none))))) 3 ≡ true
+three-levels true late rr fr = refl
+three-levels false true rr fr = refl
+three-levels false false true fr = refl
+three-levels false false false true = refl
+three-levels false false false false = refl
 
-later-level : (n : ℕ) → verdict (level (suc n)) ≤ 3
+later-level : (n : ℕ) → verdictOf (level (suc n)) ≤ 3
 unfolding level
-later-level n = leb-true (verdict (level (suc n))) 3 (rw (eqb·suc-zero n, three-levels))
+later-level n = leb-true (verdictOf (level (suc n))) 3 (rw (eqb·suc-zero n, three-levels))
 
 at-most : (b : Bool) (v w x : ℕ) → v ≤ w → x ≤ w → cond b v x ≤ w
 at-most true v w x h k = h
@@ -64,8 +68,8 @@ later-worst : (n : ℕ) (bs : List Bool) → worstFrom (suc n) bs ≤ 3
 later-worst n [] = omega arith
 later-worst n (b ∷ bs) =
     let h = later-worst (suc n) bs in
-    let k = at-most b (verdict (level (suc n))) 3 0 (later-level n) (omega arith) in
-    at-most (leb (cond b (verdict (level (suc n))) 0) (worstFrom (suc (suc n)) bs)) (worstFrom (suc (suc n)) bs) 3 (cond b (verdict (level (suc n))) 0) h k
+    let k = at-most b (verdictOf (level (suc n))) 3 0 (later-level n) (omega arith) in
+    at-most (leb (cond b (verdictOf (level (suc n))) 0) (worstFrom (suc (suc n)) bs)) (worstFrom (suc (suc n)) bs) 3 (cond b (verdictOf (level (suc n))) 0) h k
 
 -- so where the largest is 3 one of them rejects the transaction
 top-three : (v w : ℕ) → v ≤ 3 → w ≤ 3 → (eqb v 3 || eqb w 3) ≡ eqb (larger v w) 3
@@ -83,22 +87,22 @@ rejecting false v = refl
 pub later-rejects : (n : ℕ) (bs : List Bool) → rejectsFrom (suc n) bs ≡ eqb (worstFrom (suc n) bs) 3
 later-rejects n [] = refl
 later-rejects n (b ∷ bs) =
-    let v = verdict (level (suc n)) in
+    let v = verdictOf (level (suc n)) in
     rw (rejecting b v, later-rejects (suc n) bs)
     (top-three (cond b v 0) (worstFrom (suc (suc n)) bs) (at-most b v 3 0 (later-level n) (omega arith)) (later-worst (suc n) bs))
 
 -- ---- findings that reject the transaction, before others
 
-abbrev some : List Bool → Bool
-some [] = false
-some (b ∷ bs) = b || some bs
+abbrev oneHolds : List Bool → Bool
+oneHolds [] = false
+oneHolds (b ∷ bs) = b || oneHolds bs
 
 -- as the code joins them, from the left
 abbrev joined : Bool → List Bool → Bool
 joined a [] = a
 joined a (b ∷ bs) = joined (a || b) bs
 
-joined-some : (a : Bool) (bs : List Bool) → joined a bs ≡ some (a ∷ bs)
+joined-some : (a : Bool) (bs : List Bool) → joined a bs ≡ oneHolds (a ∷ bs)
 joined-some a [] = sym (or-false a)
 joined-some true (b ∷ bs) = joined-some true bs
 joined-some false (b ∷ bs) = joined-some b bs
@@ -111,15 +115,15 @@ either : (a b : Bool) (v x : ℕ) → cond a v (cond b v x) ≡ cond (a || b) v 
 either true b v x = refl
 either false b v x = refl
 
-largest-is : (bs : List Bool) (x : ℕ) → x ≤ 3 → largest bs x ≡ cond (some bs) 3 x
+largest-is : (bs : List Bool) (x : ℕ) → x ≤ 3 → largest bs x ≡ cond (oneHolds bs) 3 x
 largest-is [] x h = refl
-largest-is (b ∷ bs) x h = rw (largest-is bs x h) (over 3 b (cond (some bs) 3 x) (at-most (some bs) 3 3 x (omega arith) h) ∙ either b (some bs) 3 x)
+largest-is (b ∷ bs) x h = rw (largest-is bs x h) (over 3 b (cond (oneHolds bs) 3 x) (at-most (oneHolds bs) 3 3 x (omega arith) h) ∙ either b (oneHolds bs) 3 x)
 
 abbrev rejected : List Bool → Bool → Bool
 rejected [] x = x
 rejected (b ∷ bs) x = (b && true) || rejected bs x
 
-rejected-is : (bs : List Bool) (x : Bool) → rejected bs x ≡ (some bs || x)
+rejected-is : (bs : List Bool) (x : Bool) → rejected bs x ≡ (oneHolds bs || x)
 rejected-is [] x = refl
 rejected-is (true ∷ bs) x = refl
 rejected-is (false ∷ bs) x = rejected-is bs x
@@ -155,17 +159,17 @@ module _ (b0 b1 b2 b3 b4 b5 b6 b7 b8 b9 b10 b11 b12 b13 b14 b15 : Bool) (rest : 
   unfolding setOf
   set-first = omega arith
 
-  worst-first : worst whole ≡ cond b0 4 (cond (some (b1 ∷ fourteen)) 3 (worstFrom 16 rest))
+  worst-first : worst whole ≡ cond b0 4 (cond (oneHolds (b1 ∷ fourteen)) 3 (worstFrom 16 rest))
   unfolding worst level
   worst-first =
-      let tr = some (b1 ∷ fourteen) in
+      let tr = oneHolds (b1 ∷ fourteen) in
       let x = worstFrom 16 rest in
       let h = later-worst 15 rest in
       ap (larger (cond b0 4 0)) (largest-is (b1 ∷ fourteen) x h) ∙ over 4 b0 (cond tr 3 x) (at-most tr 3 4 x (omega arith) (omega arith))
 
-  rejects-first : rejects whole ≡ (some (b1 ∷ fourteen) || eqb (worstFrom 16 rest) 3)
+  rejects-first : rejects whole ≡ (oneHolds (b1 ∷ fourteen) || eqb (worstFrom 16 rest) 3)
   unfolding rejects level
-  rejects-first = rw (and-false b0) (rejected-is (b1 ∷ fourteen) (rejectsFrom 16 rest) ∙ ap (λ (x : Bool). some (b1 ∷ fourteen) || x) (later-rejects 15 rest))
+  rejects-first = rw (and-false b0) (rejected-is (b1 ∷ fourteen) (rejectsFrom 16 rest) ∙ ap (λ (x : Bool). oneHolds (b1 ∷ fourteen) || x) (later-rejects 15 rest))
 
   -- as the code has them, o being what is known of the others
   module _ (o : Found) (set : o .set ≡ setOf (replicate 16 false ++ rest)) (level : o .level ≡ worst (replicate 16 false ++ rest)) where

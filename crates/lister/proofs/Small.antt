@@ -9,7 +9,7 @@ use Rattle.format.specs.Bytes.{Bytes, All}
 use Rattle.format.specs.Doc.{Doc, Group, Transaction}
 use Rattle.format.proofs.Logic.{All-append}
 use Rattle.rules.specs.Tables.{Tables}
-use Rattle.rules.specs.Findings.{ownFindings}
+use Rattle.rules.specs.Findings.{fieldFindings, ownFindings}
 use Rattle.rules.specs.Works.{namedType, headerFindings, detailsFrom, transactionFindings}
 use Rattle.rules.specs.Verdicts.{joined, groupFindings, fileFindings}
 
@@ -25,11 +25,11 @@ between ss h = (omega arith, append ss ([] ∷ []) h (omega arith, tt))
 
 module _ (tables : Tables) (t : ℕ) where
   own-long : (before : List Bytes) (r : Bytes) → length (ownFindings tables before r) ≡ 47
-  unfolding ownFindings
+  unfolding fieldFindings ownFindings
   own-long before r = refl
 
   header-long : (named : Bytes) (x : Transaction) → length (headerFindings tables t named x) ≡ 47
-  unfolding headerFindings ownFindings
+  unfolding headerFindings fieldFindings
   header-long named x = refl
 
   small-details : (before ds : List Bytes) → Small (detailsFrom tables before ds)

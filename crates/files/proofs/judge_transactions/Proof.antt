@@ -2,7 +2,7 @@
 use lib.ListN.{length}
 use Rattle.format.specs.Table.{head}
 use Rattle.works.specs.Walk.{restAt}
-use Rattle.files.specs.Levels.{tablesOf}
+use Rattle.rules.specs.Tables.{tablesOf}
 use Rattle.files.proofs.Transactions.{Inv, among-none, here, room, same-v, same-g, header-here, fewer, among-on, among-end, among-stray, closed}
 use Rattle.files.proofs.judge_transactions.Statement.{statement}
 use Rattle.files.proofs.judge_transactions.Tie as tie

@@ -1,8 +1,7 @@
 -- `heads::judge` meets its contract: each finding by its function. Assumes nothing.
 use mathlib.Core.Path.{ap, _∙_}
 use mathlib.Core.List.{[]}
-use lib.ListN.{drop}
-use Rattle.rules.specs.Findings.{ownFindings, setOf, worst}
+use Rattle.rules.specs.Findings.{fieldFindings, setOf, worst}
 use Rattle.rules.specs.Works.{headerFindings}
 use Rattle.heads.proofs.Laws.{own-late}
 use borrow.Author.Needs.{needs}
@@ -83,7 +82,7 @@ returns c tables ds k l j =
       ← l .behind,
       ← at15 .found15 .ensures ds (k .marks),
     )
-    (c .gather .ensures (drop 16 (ownFindings tables [] h)) (j .set ∙ ap setOf own) (j .level ∙ ap worst own))
+    (c .gather .ensures (fieldFindings tables [] h) (j .set ∙ ap setOf own) (j .level ∙ ap worst own))
 
 pub judge-spec : {M : Type 1} → statement M
 judge-spec =
