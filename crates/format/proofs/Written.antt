@@ -56,14 +56,14 @@ counted-groups g j k n m r [] = (j, k, n, simp add-zero)
 counted-groups g j k n m r (x ∷ xs) =
     let ts = x .transactions in
     let (j′, k′, n′, e) =
-        counted-groups (suc g) (0 + length ts) (suc (lastLength (suc k) ts)) (suc (1 + recordsT ts)) (m + length ts) (suc (suc r + recordsT ts)) xs in (
+    counted-groups (suc g) (0 + length ts) (suc (lastLength (suc k) ts)) (suc (1 + recordsT ts)) (m + length ts) (suc (suc r + recordsT ts)) xs in (
       j′,
       k′,
       n′,
       counted-append (counts (suc g) 0 (suc k) 1 m (suc r)) (itemsT ts) (item grt (x .closing) ∷ itemsG xs)
-      ∙ ap (λ st. counted st (item grt (x .closing) ∷ itemsG xs)) (counted-transactions (suc g) 0 (suc k) 1 m (suc r) ts)
-      ∙ e
-      ∙ counts-path (omega arith) refl refl refl (omega arith) (omega arith),
+          ∙ ap (λ st. counted st (item grt (x .closing) ∷ itemsG xs)) (counted-transactions (suc g) 0 (suc k) 1 m (suc r) ts)
+          ∙ e
+          ∙ counts-path (omega arith) refl refl refl (omega arith) (omega arith),
     )
 
 pub counted-items : (d : Doc) → countsOf (counted noneCounted (items d)) ≡ lengths d

@@ -2,61 +2,61 @@
 use Prim.Native.Nat.{ℕ}
 use Prim.Native.String.{String}
 use mathlib.Core.Path.{_≡_, refl}
-use mathlib.Core.Bool.{Bool, true, false, not, cond, _&&_}
-use mathlib.Core.List.{List, [], _∷_, _++_}
-use lib.ListN.{replicate}
+use mathlib.Core.Bool.{Bool, true, false}
+use mathlib.Core.List.{List, [], _∷_, map}
 use Rattle.format.specs.Ascii.{ascii}
 use Rattle.format.specs.Bytes.{Bytes}
-use Rattle.format.specs.Fields.{fieldOf, areDigits, numberOf}
-use Rattle.rules.specs.Values.{daysIn, isDate, isDuration, iswcSum, isIswc, shareOf}
-use Rattle.rules.specs.Totals.{publishersTotal, writersTotal, is1, is2, is3}
+use Rattle.rules.specs.Values.{isDate, isDuration, isIswc}
+use Rattle.rules.proofs.Made.{_is_, header, publisher, writer, foundOn}
 
--- what is judged, and what the scope says of it
-pub data Row : Type 0 where
-  row : Bool → Bool → Row
+-- a test, a field's text and whether it is valid; or the details of a work and the findings that each of its records has, all of them
+data Starred : Type 0 where
+  value : (Bytes → Bool) → String → Bool → Starred
+  shares : List Bytes → List (List ℕ) → Starred
 
-abbrev pub value : String → (Bytes → Bool) → Bool → Row
-value text judged says = row (judged (ascii text)) says
+data Says : Type 0 where
+  valid : Bool → Says
+  found : List (List ℕ) → Says
 
--- a publisher record with this share of PR, and a writer record with this share of PR and that of MR and SR
-blanks : ℕ → Bytes
-blanks n = replicate n 32
+computed : Starred → Says
+computed (value test text good) = valid (test (ascii text))
+computed (shares details sets) = found (foundOn (header "NWR" []) details)
 
-spu : String → Bytes
-spu pr = ascii "SPU" ++ blanks 112 ++ ascii pr ++ blanks 3 ++ ascii "00000" ++ blanks 3 ++ ascii "00000" ++ blanks 47
+said : Starred → Says
+said (value test text good) = valid good
+said (shares details sets) = found sets
 
-swr : String → String → Bytes
-swr pr others = ascii "SWR" ++ blanks 126 ++ ascii pr ++ blanks 3 ++ ascii others ++ blanks 3 ++ ascii others ++ blanks 30
+-- publishers and writers have these shares of PR and of nothing else; two publishers, because one may not have more than half
+publishers : String → String → List Bytes → List Bytes
+publishers pr pr′ ds = publisher "SPU" (116 is pr ∷ []) ∷ publisher "SPU" (20 is "02" ∷ 116 is pr′ ∷ []) ∷ ds
 
--- findings 1, 2 and 3 on a transaction's details, with tolerance 6
-same : Bool → Bool → Bool
-same a b = cond a b (not b)
+writers : String → List Bytes
+writers pr = writer "SWR" (130 is pr ∷ 138 is "00000" ∷ 146 is "00000" ∷ []) ∷ []
 
-abbrev total : List Bytes → Bool → Bool → Bool → Row
-total details one two three = row (same (is1 6 details) one && same (is2 6 details) two && same (is3 6 details) three) true
+-- all rights to one writer
+everything : String → List Bytes
+everything share = writer "SWR" (130 is share ∷ 138 is share ∷ 146 is share ∷ []) ∷ []
 
-pub starred : List Row
+none : List ℕ
+none = []
+
+starred : List Starred
 starred =
-    value "T0345246801" isIswc true  -- 1
-    ∷ value "T0345246802" isIswc false  -- 2
-    ∷ value "T0030749586" isIswc true  -- 3, of 002
-    ∷ value "20240229" isDate true  -- 4
-    ∷ value "19000229" isDate false  -- 5
-    ∷ value "20231301" isDate false  -- 6
-    ∷ value "995959" isDuration true  -- 7
-    ∷ value "000060" isDuration false  -- 8
-    ∷ total (spu "05006" ∷ swr "04994" "00000" ∷ []) false false false  -- 9
-    ∷ total (spu "05007" ∷ swr "04993" "00000" ∷ []) true true false  -- 10
-    ∷ total (swr "09994" "09994" ∷ []) false false false  -- 11
-    ∷ total (swr "09993" "09993" ∷ []) false false true  -- 12
-    ∷ total (swr "00003" "00000" ∷ []) false true true  -- 13
+    value isIswc "T0345246801" true  -- 1
+    ∷ value isIswc "T0345246802" false  -- 2
+    ∷ value isIswc "T0030749586" true  -- 3, of 002
+    ∷ value isDate "20240229" true  -- 4
+    ∷ value isDate "19000229" false  -- 5
+    ∷ value isDate "20231301" false  -- 6
+    ∷ value isDuration "995959" true  -- 7
+    ∷ value isDuration "000060" false  -- 8
+    ∷ shares (publishers "02503" "02503" (writers "04994")) (none ∷ none ∷ none ∷ none ∷ [])  -- 9: 5006 and 4994
+    ∷ shares (publishers "02503" "02504" (writers "04993")) ((1 ∷ 2 ∷ []) ∷ none ∷ none ∷ none ∷ [])  -- 10: 5007 and 4993
+    ∷ shares (everything "09994") (none ∷ none ∷ [])  -- 11
+    ∷ shares (everything "09993") ((3 ∷ []) ∷ none ∷ [])  -- 12
+    ∷ shares (writers "00003") ((2 ∷ 3 ∷ []) ∷ none ∷ [])  -- 13
     ∷ []
 
--- every row's judgement is what the scope says
-abbrev pub agree : List Row → Bool
-agree [] = true
-agree (row judged says ∷ rows) = cond says judged (not judged) && agree rows
-
-pub starred-agree : agree starred ≡ true
-unfolding starred spu swr blanks same fieldOf areDigits numberOf daysIn isDate isDuration iswcSum isIswc shareOf publishersTotal writersTotal is1 is2 is3
-starred-agree = refl
+all-starred : map computed starred ≡ map said starred
+unfolding starred computed said none everything writers publishers foundOn
+all-starred = refl
