@@ -8,7 +8,7 @@ use mathlib.Core.List.{List, [], _∷_}
 use lib.ListN.{length, length-append}
 use lib.Dec.{eqb, leb, leb→le}
 use Rattle.format.specs.Bytes.{Bytes, isText}
-use Rattle.format.specs.Table.{Class, hdr, grh, head, detail, grt, trl, unknown, Table}
+use Rattle.format.specs.Table.{Table}
 use Rattle.format.specs.Lines.{Reading, text, cr, fault, byte, readFrom, ended, Lines, good, bad, lines}
 use Rattle.format.specs.Checks.{Check, faultFrom, faultOf, Counts, noneCounted, count, cls, check6, check7, check8, check9, countFrom}
 use Rattle.format.specs.Structure.{Answer, refusal, unless, mostBytes, mostRecords, firstOf, ofLines, ofFile, versioned, judged, structure}

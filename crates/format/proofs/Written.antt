@@ -6,7 +6,7 @@ use mathlib.Core.Path.{_≡_, refl, ap, _∙_}
 use mathlib.Core.List.{List, [], _∷_, _++_, map}
 use lib.ListN.{length}
 use Rattle.format.specs.Bytes.{Bytes, put}
-use Rattle.format.specs.Doc.{Doc, Group, Transaction, recordsT, transactionsOf, recordsOf, recordsAll, prefixed, writtenDetails, writtenTransactions, opened, closed, writtenGroups, written}
+use Rattle.format.specs.Doc.{Doc, Group, Transaction, recordsT, transactionsOf, recordsOf, prefixed, writtenDetails, writtenTransactions, opened, closed, writtenGroups, written}
 use Rattle.format.specs.Table.{detail, grt, trl, start}
 use Rattle.format.specs.WellFormed.{Item, item, itemsT, itemsG, items}
 use Rattle.format.specs.Checks.{Counts, noneCounted, count, expected}
