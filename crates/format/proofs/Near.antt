@@ -11,8 +11,10 @@ use Rattle.format.specs.Bytes.{Bytes, isText}
 use Rattle.format.specs.Table.{Class, hdr, grh, head, detail, grt, trl, unknown, Table}
 use Rattle.format.specs.Lines.{Reading, text, cr, fault, byte, readFrom, ended, Lines, good, bad, lines}
 use Rattle.format.specs.Checks.{Check, faultFrom, faultOf, Counts, zeros, count, cls, check6, check7, check8, check9, countFrom}
-use Rattle.format.specs.Structure.{Answer, refusal, unless, mostBytes, mostRecords, firstOf, ofLines, ofFile, versioned, judged, structure}
+use Rattle.format.specs.Structure.{Answer, refused, passed, refusal, unless, mostBytes, mostRecords}
+use Rattle.format.specs.Structure.{firstOf, ofLines, ofFile, versioned, judged, structure}
 use Rattle.format.specs.Numbering.{placed, numbering}
+use Rattle.format.specs.Room.{inRoom}
 use Rattle.format.specs.Claims.{Near, Nearby}
 use Rattle.format.proofs.Logic.{is-T}
 
@@ -77,6 +79,11 @@ pub near : (n : ℕ) (o : Option ℕ) (a : Answer) → Within mostBytes o → Ne
 unfolding Within
 near n none a w h = h
 near n (some i) a w h = w
+
+-- 11 has place 0
+pub room-near : (enough : ℕ → Bool) (a : Answer) → Near a → Near (inRoom enough a)
+room-near enough (refused n i) h = h
+room-near enough (passed g m r) h = near 11 (unless (enough r) 0) (passed g m r) (unless-within (enough r) 0 (omega arith)) h
 
 count-one : (n : Counts) (c : Class) → count n c .records ≡ suc (n .records)
 count-one n hdr = refl

@@ -15,7 +15,7 @@ use Rattle.format.specs.Room.{inRoom, leftIn}
 use Rattle.format.specs.Claims.{Near}
 use Rattle.format.proofs.Logic.{is-true, is-T, both, left, right}
 use Rattle.format.proofs.Answers.{tested, untested, By, refusal-by, structure-by}
-use Rattle.format.proofs.Near.{near, unless-within}
+use Rattle.format.proofs.Near.{near, unless-within, room-near}
 use Rattle.format.proofs.At22.{demand3-22, nearby-22}
 use Rattle.rules.specs.Tables.{Tables, languageSize, societySize, categorySize, rightTable}
 use Rattle.rules.specs.Values.{largestTolerance}
@@ -38,10 +38,6 @@ room-passed enough (passed g t r) k m n e =
 in-room : (enough : ℕ → Bool) (a : Answer) → ((k m n : ℕ) → a ≡ passed k m n → T (enough n)) → inRoom enough a ≡ a
 in-room enough (refused n i) h = refl
 in-room enough (passed g t r) h = untested 11 0 (enough r) (passed g t r) (h g t r refl)
-
-room-near : (enough : ℕ → Bool) (a : Answer) → Near a → Near (inRoom enough a)
-room-near enough (refused n i) h = h
-room-near enough (passed g t r) h = near 11 (unless (enough r) 0) (passed g t r) (unless-within (enough r) 0 (omega arith)) h
 
 -- as many bytes as are new
 module _ (k m n size : ℕ) (new old : Bytes) (e : length new ≡ size) where
