@@ -1,5 +1,5 @@
--- No two cases of the answer stand for one number and place, and an answer packed in one number loses neither a refusal nor the number
--- of records. Assumes nothing.
+-- No two cases of the answer stand for one number and place, and in one number neither a refusal nor the number of records is lost.
+-- Assumes nothing.
 use native.Mathlib.Omega.{arith}
 use mathlib.Core.Path.{_≡_, refl, sym, ap, _∙_}
 use mathlib.Core.List.{[], _∷_}
@@ -8,8 +8,8 @@ use Rattle.format.specs.Structure.{Answer as FormatAnswer, refused, passed}
 use Rattle.format.specs.Claims.{Near}
 use Rattle.answers.specs.declared.Answer.{Answer}
 use Rattle.answers.specs.declared.Answer.the-variants.{Tolerance, Table, Long, Many, Line, Shape, Place, Number, Total, Version, Short, Passed}
-use Rattle.answers.specs.Numbers.{answerOf, packedOf}
-use Rattle.answers.specs.Claims.{Alike, Named}
+use Rattle.answers.specs.Numbers.{answerOf, exact}
+use Rattle.answers.specs.Claims.{Alike, Named, Says, NothingLost}
 
 -- ---- the cases
 
@@ -20,7 +20,7 @@ caseOf (refused n i) =
     (Short ∷ Tolerance ∷ Table i ∷ Long ∷ Line i ∷ Many ∷ Shape i ∷ Place i ∷ Number i ∷ Total i ∷ Version ∷ [])
     n
     Short
-caseOf (passed g t r) = Passed g t r
+caseOf (passed g m r) = Passed g m r
 
 case-found : (a : Answer) → caseOf (answerOf a) ≡ a
 unfolding caseOf
@@ -35,7 +35,7 @@ case-found (Number i) = refl
 case-found (Total i) = refl
 case-found Version = refl
 case-found Short = refl
-case-found (Passed g t r) = refl
+case-found (Passed g m r) = refl
 
 pub answer-alone : (a b : Answer) → answerOf a ≡ answerOf b → a ≡ b
 answer-alone a b e = sym (case-found a) ∙ ap caseOf e ∙ case-found b
@@ -54,10 +54,17 @@ named (Number i) = omega arith
 named (Total i) = omega arith
 named Version = omega arith
 named Short = omega arith
-named (Passed g t r) = tt
+named (Passed g m r) = tt
 
-pub packed-alone : (x y : FormatAnswer) → Near x → Near y → Named x → Named y → packedOf x ≡ packedOf y → Alike x y
-packed-alone (refused n i) (refused m j) p q a b e = (omega arith, omega arith)
-packed-alone (refused n i) (passed g t r) p q a b e = omega arith
-packed-alone (passed g t r) (refused n i) p q a b e = omega arith
-packed-alone (passed g t r) (passed h u s) p q a b e = e
+pub exact-says : (a : FormatAnswer) → Near a → Says (exact a) a
+exact-says (refused n i) h = (omega arith, omega arith)
+exact-says (passed g m r) h = (omega arith, omega arith)
+
+pub exact-alone : (x y : FormatAnswer) → Near x → Near y → Named x → Named y → exact x ≡ exact y → Alike x y
+exact-alone (refused n i) (refused k j) p q a b e = (omega arith, omega arith)
+exact-alone (refused n i) (passed g m r) p q a b e = omega arith
+exact-alone (passed g m r) (refused n i) p q a b e = omega arith
+exact-alone (passed g m r) (passed h k s) p q a b e = e
+
+pub nothing-lost : NothingLost
+nothing-lost = record { cases = answer-alone; named = named; says = exact-says; number = exact-alone }

@@ -1,2 +1,3 @@
-pub mod Alone
 pub mod Parts
+pub mod Exact
+pub mod Alone

@@ -7,17 +7,17 @@ use Rattle.answers.specs.Numbers.{toldOf, isPassed}
 
 pub told-passes : (a : Answer) → toldOf a .passes ≡ isPassed a
 told-passes (refused n i) = refl
-told-passes (passed g t r) = refl
+told-passes (passed g m r) = refl
 
-module _ (a : Answer) (t : Told) (is : t ≡ toldOf a) where
-  pub told-passed : t .passes ≡ true → a ≡ passed (t .groups) (t .transactions) (t .records)
+module _ (a : Answer) (told : Told) (is : told ≡ toldOf a) where
+  pub told-passed : told .passes ≡ true → a ≡ passed (told .groups) (told .transactions) (told .records)
   told-passed e = subst (λ (u : Told). u .passes ≡ true → a ≡ passed (u .groups) (u .transactions) (u .records)) (sym is) (go a) e
     where
       go : (b : Answer) → toldOf b .passes ≡ true → b ≡ passed (toldOf b .groups) (toldOf b .transactions) (toldOf b .records)
       go (refused n i) q = absurd (false≢true q)
       go (passed k m r) q = refl
 
-  pub told-refused : t .passes ≡ false → a ≡ refused (t .refusal) (t .place)
+  pub told-refused : told .passes ≡ false → a ≡ refused (told .refusal) (told .place)
   told-refused e = subst (λ (u : Told). u .passes ≡ false → a ≡ refused (u .refusal) (u .place)) (sym is) (go a) e
     where
       go : (b : Answer) → toldOf b .passes ≡ false → b ≡ refused (toldOf b .refusal) (toldOf b .place)

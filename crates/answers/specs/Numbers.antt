@@ -1,5 +1,5 @@
 -- The number and the place of each refusal, and an answer as one number.
-use Prim.Native.Nat.{ℕ, _+_, _*_, _%_, _^_}
+use Prim.Native.Nat.{ℕ, _+_, _*_, _^_}
 use mathlib.Core.Bool.{Bool, true, false}
 use Rattle.format.specs.Structure.{Answer as FormatAnswer, refused, passed, mostRecords}
 use Rattle.answers.specs.declared.Told.{Told}
@@ -18,18 +18,18 @@ answerOf (Number i) = refused 8 i
 answerOf (Total i) = refused 9 i
 answerOf Version = refused 10 0
 answerOf Short = refused 11 0
-answerOf (Passed g t r) = passed g t r
+answerOf (Passed g m r) = passed g m r
 
 -- an answer in numbers
 abbrev pub toldOf : FormatAnswer → Told
 toldOf (refused n i) = record { passes = false; refusal = n; place = i; groups = 0; transactions = 0; records = 0 }
-toldOf (passed g t r) = record { passes = true; refusal = 0; place = 0; groups = g; transactions = t; records = r }
+toldOf (passed g m r) = record { passes = true; refusal = 0; place = 0; groups = g; transactions = m; records = r }
 
 abbrev pub isPassed : FormatAnswer → Bool
 isPassed (refused n i) = false
-isPassed (passed g t r) = true
+isPassed (passed g m r) = true
 
--- the refusal's number above 32 bits for its place, which within the size limits needs far fewer; or the number of records
-abbrev pub packedOf : FormatAnswer → ℕ
-packedOf (refused n i) = n * 2 ^ 32 + i % 2 ^ 32
-packedOf (passed g t r) = r
+-- an answer as one number: the refusal's number times 2^32 plus its place, or the number of records
+abbrev pub exact : FormatAnswer → ℕ
+exact (refused n i) = n * 2 ^ 32 + i
+exact (passed g m r) = r

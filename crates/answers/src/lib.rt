@@ -3,7 +3,8 @@
 ghost use mathlib.Core.Path.{_≡_};
 ghost use Prim.Native.Nat.{_≤_};
 ghost use Rattle.format.specs.Structure.{refused};
-ghost use Rattle.answers.specs.Numbers.{answerOf, toldOf, isPassed, packedOf};
+ghost use Rattle.answers.specs.Numbers.{answerOf, toldOf, isPassed};
+ghost use Rattle.answers.specs.Packed.{packedOf};
 
 pub enum Answer {
     // 1, 2: the tolerance; which of the three tables.
@@ -88,18 +89,18 @@ impl Answer {
     pub fn passes(self) -> bool
         ensures { λ r. ⌜ r ≡ isPassed (answerOf self) ⌝ }
     {
-        let t = self.told();
-        t.passes
+        let told = self.told();
+        told.passes
     }
 
-    // In one number.
+    // In one number. An answer may hold any place, so the last 32 bits of it are taken; within the size limits they are the whole place.
     pub fn packed(self) -> u64
         ensures { λ r. ⌜ r ≡ packedOf (answerOf self) ⌝ }
     {
-        let t = self.told();
-        if t.passes {
-            return t.records;
+        let told = self.told();
+        if told.passes {
+            return told.records;
         }
-        t.refusal * 4294967296 + t.place % 4294967296
+        told.refusal * 4294967296 + told.place % 4294967296
     }
 }

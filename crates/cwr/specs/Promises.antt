@@ -5,17 +5,20 @@ use lib.ListN.{length}
 use Rattle.format.specs.Bytes.{Bytes}
 use Rattle.rules.specs.Tables.{Tables}
 use Rattle.rules.specs.Findings.{places, countOf, lowestOf}
-use Rattle.rules.specs.Outcome.{check}
+use Rattle.rules.specs.Outcome.{Outcome, check}
 use Rattle.answers.specs.declared.Answer.{Answer}
 use Rattle.answers.specs.Numbers.{answerOf}
 use Rattle.numbering.specs.Outcome.{numberAnswer, numberBuffer}
-use Rattle.cwr.specs.Outcome.{outcome}
 
--- `check`, with the buffers v and g before it and v' and g' behind it; `check_short` with the short form's tolerance
+-- what a check has done, as the definition says it: its answer, and the two buffers after it
+abbrev pub outcome : Answer → Bytes → Bytes → Outcome
+outcome answer verdicts findings = record { answer = answerOf answer; verdicts = verdicts; findings = findings }
+
+-- `check`, with the buffers v and g before it and v' and g' after it; `check_short` with the short form's tolerance
 abbrev pub Checked : Tables → ℕ → Bytes → Bytes → Bytes → Answer → Bytes → Bytes → Type 0
 Checked tables t f v g r v' g' = outcome r v' g' ≡ check tables t f v g
 
--- `number`, with the buffer before it and behind it
+-- `number`, with the buffer before it and after it
 abbrev pub Numbered : Bytes → Bytes → Answer → Bytes → Type 0
 Numbered f out r out' = (answerOf r ≡ numberAnswer f (length out)) × (out' ≡ numberBuffer f out)
 

@@ -17,7 +17,7 @@ ghost use Rattle.answers.specs.Numbers.{answerOf};
 ghost use Rattle.structure.specs.Cursor.{Here};
 ghost use Rattle.buffers.specs.Written.{Written};
 ghost use Rattle.works.specs.Walk.{restAt, Room};
-ghost use Rattle.cwr.specs.Outcome.{AllIndexed};
+ghost use Rattle.cwr.specs.Indexes.{AllIndexed};
 ghost use Rattle.cwr.specs.Promises.{Checked, Numbered, Counted, Lowest};
 
 // How many bytes an entry of each table has.

@@ -1,13 +1,26 @@
--- An outcome with its answer packed. Assumes nothing.
+-- Where the library keeps its promise, the number of its answer keeps that of the call from C. Assumes nothing.
 use Prim.Native.Nat.{ℕ}
-use mathlib.Core.Path.{_≡_, ap, _∙_}
+use mathlib.Core.Path.{_≡_, ap}
+use lib.ListN.{length}
 use Rattle.format.specs.Bytes.{Bytes}
+use Rattle.rules.specs.Tables.{Tables}
 use Rattle.rules.specs.Outcome.{Outcome}
+use Rattle.rules.proofs.Outcomes.{checks}
 use Rattle.answers.specs.declared.Answer.{Answer}
-use Rattle.answers.specs.Numbers.{answerOf, packedOf}
-use Rattle.cwr.specs.Outcome.{outcome}
-use Rattle.cwr_c.specs.Packed.{Packed, packed}
+use Rattle.answers.specs.Numbers.{answerOf}
+use Rattle.answers.specs.Packed.{packedOf}
+use Rattle.answers.proofs.Exact.{exact-so}
+use Rattle.numbering.proofs.Claims.{near}
+use Rattle.cwr.specs.Promises.{Checked, Numbered}
+use Rattle.cwr_c.specs.Promises.{CheckedC, NumberedC}
 
-pub packed-so : (a : Answer) (n : ℕ) (v g : Bytes) (o : Outcome) → n ≡ packedOf (answerOf a) → outcome a v g ≡ o
-    → _≡_ {A = Packed} (record { answer = n; verdicts = v; findings = g }) (packed o)
-packed-so a n v g o e q = ap (λ (k : ℕ). record { answer = k; verdicts = v; findings = g }) e ∙ ap packed q
+module _ (a : Answer) {r : ℕ} (e : r ≡ packedOf (answerOf a)) where
+  pub checked : (tables : Tables) (t : ℕ) (f v g v' g' : Bytes) → Checked tables t f v g a v' g' → CheckedC tables t f v g r v' g'
+  checked tables t f v g v' g' is = (
+    exact-so e (ap (λ (o : Outcome). o .answer) is) (checks .near tables t f v g),
+    ap (λ (o : Outcome). o .verdicts) is,
+    ap (λ (o : Outcome). o .findings) is,
+  )
+
+  pub numbered : (f out out' : Bytes) → Numbered f out a out' → NumberedC f out r out'
+  numbered f out out' is = (exact-so e (is .0) (near f (length out)), is .1)

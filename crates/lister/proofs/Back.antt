@@ -61,7 +61,7 @@ module _ (s : List Bool) (fits : length s ≤ 64) where
 
 -- ---- all lines
 
--- with more behind the verdicts and behind the findings
+-- with more after the verdicts and after the findings
 lines-back : (n : ℕ) (rs : List Bytes) (vs : List ℕ) (ss : List (List Bool)) (v g : Bytes) → length vs ≡ length rs → length ss ≡ length rs
     → Small ss → recordLines n rs (vs ++ v) (setsIn (length rs) (findingBytes ss ++ g)) ≡ recordLines n rs vs ss
 unfolding findingBytes

@@ -5,3 +5,4 @@ pub mod Walk
 pub mod Back
 pub mod Small
 pub mod Whole
+pub mod Alone

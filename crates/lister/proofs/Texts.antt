@@ -1,4 +1,4 @@
--- The words of a line put one behind the other. Assumes nothing.
+-- The words of a line put one after the other. Assumes nothing.
 use Prim.Native.Nat.{ℕ}
 use native.Mathlib.Omega.{arith}
 use mathlib.Core.Path.{_≡_}

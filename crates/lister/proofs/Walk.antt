@@ -104,7 +104,7 @@ module _ (f v g : Bytes) (start : ℕ) (old new : Bytes) (i n p : ℕ) (G : Goin
   pub next-within : i + textLength (drop i f) + 2 ≤ length f
   next-within = fits f i here (G .fine)
 
-  -- the line of this record, and the lines behind it
+  -- the line of this record, and the lines after it
   split : linesFrom v g n (restAt f i) ≡ lineAt f i n v g ++ linesFrom v g (n + 1) (restAt f (i + textLength (drop i f) + 2))
   split =
       ap (linesFrom v g n) (records-here f i here (G .fine))

@@ -4,7 +4,7 @@ use native.Mathlib.Omega.{arith}
 use mathlib.Core.Path.{_≡_, refl, sym, ap, _∙_}
 use mathlib.Core.Bool.{true, false, false≢true}
 use mathlib.Core.List.{[], _∷_, _++_, append-nil}
-use lib.ListN.{length}
+use lib.ListN.{length, drop}
 use borrow.Author.Tests.{le-leb, lt-leb}
 use Rattle.format.specs.Ascii.{ascii}
 use Rattle.format.specs.Bytes.{Bytes}
@@ -20,14 +20,15 @@ use Rattle.rules.specs.Listing.{answerLine, recordLines, listedBehind, listed, 
 use Rattle.rules.proofs.Each.{records-counted}
 use Rattle.rules.proofs.Outcomes.{passed-order, checks}
 use Rattle.answers.specs.Numbers.{isPassed}
-use Rattle.cwr.proofs.Outcomes.{fit}
+use Rattle.cwr.proofs.Outcomes.{fit, splice-front}
+use Rattle.lister.specs.Promises.{Listed}
 use Rattle.lister.specs.Put.{Put}
 use Rattle.lister.specs.Read.{Listable, linesFrom}
 use Rattle.lister.proofs.Words.{then}
 use Rattle.lister.proofs.Back.{listed-back}
 use Rattle.lister.proofs.Small.{small-file}
 
--- ---- what is listed behind the first line
+-- ---- what is listed after the first line
 
 module _ {a r : ℕ} {x old new : Bytes} (b : Answer) (text : Bytes) where
   pub passed-put : isPassed b ≡ true → {s : ℕ} {last : Bytes} → Put a x old new r
@@ -36,14 +37,14 @@ module _ {a r : ℕ} {x old new : Bytes} (b : Answer) (text : Bytes) where
     where
       go : (b : Answer) → isPassed b ≡ true → Put a (x ++ listedBehind b text) old last s
       go (refused n i) e = absurd (false≢true e)
-      go (passed g t n) e = then p q
+      go (passed g m n) e = then p q
 
   pub refused-put : isPassed b ≡ false → Put a x old new r → Put a (x ++ listedBehind b text) old new r
   refused-put e p = go b e
     where
       go : (b : Answer) → isPassed b ≡ false → Put a (x ++ listedBehind b text) old new r
       go (refused n i) e = rw (append-nil x) p
-      go (passed g t n) e = absurd (false≢true (sym e))
+      go (passed g m n) e = absurd (false≢true (sym e))
 
 -- ---- any file
 
@@ -100,12 +101,18 @@ module _ (tables : Tables) (t : ℕ) (f v₀ g₀ : Bytes) (a : Answer) (v g : B
 
 -- ---- an input of any length
 
+-- text at the front of a buffer
+front : {r : ℕ} {x old new : Bytes} → Put 0 x old new r → (r ≡ length x) × (new ≡ x ++ drop r old)
+front {r} {x} {old} p =
+    let whole : r ≡ length x = omega (arith, p .after) in
+    (whole, p .text ∙ splice-front x old ∙ rw whole)
+
 pub short-listed : {r : ℕ} {old new : Bytes} (f : Bytes) → length f ≤ mostInput → Put 0 (listed listingTables largestTolerance f) old new r
-    → Put 0 (listing f) old new r
+    → Listed f old r new
 unfolding listing
-short-listed f h p = rw (le-leb (length f) mostInput h) p
+short-listed f h p = rw (le-leb (length f) mostInput h) (front p)
 
 pub long-listed : {r : ℕ} {old new : Bytes} (f : Bytes) → mostInput < length f → Put 0 (ascii "INPUT TOO LONG" ++ 10 ∷ []) old new r
-    → Put 0 (listing f) old new r
+    → Listed f old r new
 unfolding listing
-long-listed f h p = rw (lt-leb (length f) mostInput h) p
+long-listed f h p = rw (lt-leb (length f) mostInput h) (front p)

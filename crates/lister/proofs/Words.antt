@@ -1,4 +1,4 @@
--- Words put one behind the other, and the zeros before a number. Assumes nothing.
+-- Words put one after the other, and the zeros before a number. Assumes nothing.
 use Prim.Native.Nat.{ℕ, suc, _+_, _-_, _<_, _≤_}
 use native.Mathlib.Numerals.{add-one}
 use native.Mathlib.Omega.{arith}
@@ -11,32 +11,32 @@ use borrow.Rule.Slice.PartMut.{putMid}
 use Rattle.format.specs.Bytes.{Bytes, decimal}
 use Rattle.structure.proofs.Cursor.{to-end}
 use Rattle.rules.specs.Listing.{withoutZeros, figure}
-use Rattle.buffers.specs.Written.{splice}
+use Rattle.format.specs.Lent.{splice}
 use Rattle.buffers.proofs.Splice.{splice-nil, set-splice, part-splice, length-splice, splice-on}
 use Rattle.lister.specs.Put.{Put}
 
 -- ---- text put into a buffer
 
 pub nothing-put : (a : ℕ) (o : Bytes) → a ≤ length o → Put a [] o o a
-nothing-put a o h = record { fits = omega arith; text = sym (splice-nil a o); behind = omega arith }
+nothing-put a o h = record { fits = omega arith; text = sym (splice-nil a o); after = omega arith }
 
 pub length-put : {a r : ℕ} {x o n : Bytes} → Put a x o n r → length n ≡ length o
 length-put {a} {x = x} {o = o} p = ap length (p .text) ∙ length-splice a x o (p .fits)
 
--- more behind it
+-- more after it
 pub then : {a r s : ℕ} {x y o n m : Bytes} → Put a x o n r → Put r y n m s → Put a (x ++ y) o m s
 then {a} {r} {s} {x} {y} {o} p q =
     record {
-      fits = omega (arith, length-append x y, q .fits, p .behind, length-put p);
-      text = q .text ∙ rw (p .text, p .behind) (splice-on a x o (p .fits) y);
-      behind = q .behind ∙ omega (arith, length-append x y, p .behind);
+      fits = omega (arith, length-append x y, q .fits, p .after, length-put p);
+      text = q .text ∙ rw (p .text, p .after) (splice-on a x o (p .fits) y);
+      after = q .after ∙ omega (arith, length-append x y, p .after);
     }
 
--- more behind a word and the byte that ends it
+-- more after a word and the byte that ends it
 pub word-then : {a r s : ℕ} {y o n m : Bytes} (w : Bytes) (x : ℕ) → Put a (w ++ x ∷ []) o n r → Put r y n m s → Put a (w ++ x ∷ y) o m s
 word-then {y = y} w x p q = rw (append-assoc w (x ∷ []) y) at (then p q)
 
--- a word that was copied into its part of the buffer, and a byte stored behind it
+-- a word that was copied into its part of the buffer, and a byte stored after it
 pub word-put : (w part ys out : Bytes) (a e x : ℕ) → e ≡ a + length w → e < length out → length part ≡ length w
     → ys ≡ take (length w) w ++ drop (length w) part → Put a (w ++ x ∷ []) out (set (putMid a (e - a) out ys) e x) (e + 1)
 word-put w part ys out a e x q h l c =
@@ -48,7 +48,7 @@ word-put w part ys out a e x q h l c =
     record {
       fits = omega (arith, length-append w (x ∷ []));
       text = rw first (set-splice e x (splice a w out) inside ∙ rw q (splice-on a w out fit (x ∷ [])));
-      behind = omega (arith, length-append w (x ∷ []));
+      after = omega (arith, length-append w (x ∷ []));
     }
 
 -- ---- zeros before a number

@@ -1,4 +1,4 @@
--- The lines of records whose verdicts and findings stand in two buffers.
+-- Internal: the lines of records whose verdicts and findings stand in two buffers.
 use Prim.Native.Nat.{ℕ, zero, suc, _*_, _≤_}
 use mathlib.Core.Bool.{Bool}
 use mathlib.Core.List.{List, [], _∷_}

@@ -1,5 +1,5 @@
 // The listing of a file, written into a lent buffer: one line for the answer of the check, then one for each record of a file that passes.
-// Each function writes from a place on and answers the place behind what it wrote.
+// Each function writes from a place on and answers the place after what it wrote.
 use answers::Answer;
 use answers::MOST_RECORDS;
 ghost use mathlib.Core.Path.{_≡_};
@@ -12,8 +12,9 @@ ghost use Rattle.format.specs.Structure.{refused, passed};
 ghost use Rattle.format.specs.Numbering.{recordsIn};
 ghost use Rattle.rules.specs.Findings.{places};
 ghost use Rattle.rules.specs.Values.{largestTolerance};
-ghost use Rattle.rules.specs.Listing.{withoutZeros, figure, lowestWord, recordLine, answerLine, listedBehind, listed, listingTables, listing};
+ghost use Rattle.rules.specs.Listing.{withoutZeros, figure, lowestWord, recordLine, answerLine, listedBehind, listed, listingTables};
 ghost use Rattle.answers.specs.Numbers.{answerOf, isPassed};
+ghost use Rattle.lister.specs.Promises.{Listed};
 ghost use Rattle.lister.specs.Put.{Put};
 ghost use Rattle.lister.specs.Read.{Listable, lineAt, linesFrom};
 
@@ -23,7 +24,7 @@ const LF: u8 = 10;
 
 // ---- words
 
-// A word, and the byte that stands behind it.
+// A word, and the byte that stands after it.
 fn put_word(word: &[u8], end: u8, out: &mut [u8], at: usize) -> usize
     requires { ⌜ at + length (now word) < length (now out) ⌝ }
     ensures { λ r. ⌜ Put at (now (word .entry) ++ end ∷ []) (now (out .entry)) (now (out .exit)) r ⌝ }
@@ -50,7 +51,7 @@ fn zeros(digits: &[u8]) -> usize
     i
 }
 
-// The digits behind those zeros. (The function that holds the ten of a number takes no part of them.)
+// The digits after those zeros. (The function that holds the ten of a number takes no part of them.)
 fn put_digits(digits: &[u8], end: u8, out: &mut [u8], at: usize) -> usize
     requires { ⌜ at + length (now digits) < length (now out) ⌝ }
     ensures { λ r. ⌜ Put at (withoutZeros (now (digits .entry)) ++ end ∷ []) (now (out .entry)) (now (out .exit)) r ⌝ }
@@ -60,7 +61,7 @@ fn put_digits(digits: &[u8], end: u8, out: &mut [u8], at: usize) -> usize
     put_word(&digits[from..], end, out, at)
 }
 
-// A number, and the byte that stands behind it.
+// A number, and the byte that stands after it.
 fn put_figure(n: u64, end: u8, out: &mut [u8], at: usize) -> usize
     requires { ⌜ at + 11 ≤ length (now out) ⌝ }
     ensures { λ r. ⌜ Put at (figure n ++ end ∷ []) (now (out .entry)) (now (out .exit)) r ⌝ }
@@ -241,7 +242,7 @@ pub const LISTING: usize = 64 + 10 * MOST_INPUT;
 
 // The listing of an input, at the front of out; how many bytes it has.
 pub fn list(input: &[u8], out: &mut [u8; LISTING]) -> usize
-    ensures { λ r. ⌜ Put 0 (listing (now (input .entry))) (now (out .entry)) (now (out .exit)) r ⌝ }
+    ensures { λ r. ⌜ Listed (now (input .entry)) (now (out .entry)) r (now (out .exit)) ⌝ }
 {
     if MOST_INPUT < input.len() {
         return put_word(b"INPUT TOO LONG", LF, out, 0);

@@ -3,13 +3,13 @@ ghost use mathlib.Core.Path.{_≡_};
 ghost use lib.ListN.{length};
 ghost use Rattle.format.specs.Cwr22.{cwr22};
 ghost use Rattle.format.specs.Structure.{structure};
-ghost use Rattle.answers.specs.Numbers.{toldOf, packedOf};
+ghost use Rattle.answers.specs.Numbers.{toldOf, exact};
 ghost use Rattle.numbering.specs.Outcome.{numberAnswer, numberBuffer};
 
 // Refusals 3 to 10: number and place in one number, or the number of records.
 #[no_mangle]
 pub extern "C" fn probe_structure(file: &[u8]) -> u64
-    ensures { λ r. ⌜ r ≡ packedOf (structure cwr22 (now (file .entry))) ⌝ }
+    ensures { λ r. ⌜ r ≡ exact (structure cwr22 (now (file .entry))) ⌝ }
 {
     let answer = structure::check(file);
     answer.packed()
@@ -38,7 +38,7 @@ pub extern "C" fn probe_transactions(file: &[u8]) -> u64
 // Numbering: the answer in one number, and the numbered file in out.
 #[no_mangle]
 pub extern "C" fn probe_number(file: &[u8], out: &mut [u8]) -> u64
-    ensures { λ r. ⌜ r ≡ packedOf (numberAnswer (now (file .entry)) (length (now (out .entry)))) ⌝ }
+    ensures { λ r. ⌜ r ≡ exact (numberAnswer (now (file .entry)) (length (now (out .entry)))) ⌝ }
     ensures { λ _. ⌜ now (out .exit) ≡ numberBuffer (now (file .entry)) (now (out .entry)) ⌝ }
 {
     let answer = numbering::number(file, out);

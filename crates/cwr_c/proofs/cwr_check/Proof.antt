@@ -1,5 +1,5 @@
 -- `cwr_c::cwr_check` meets its contract. Assumes nothing.
-use Rattle.cwr_c.proofs.Laws.{packed-so}
+use Rattle.cwr_c.proofs.Laws.{checked}
 use borrow.Author.Needs.{needs}
 use Rattle.cwr_c.proofs.cwr_check.Statement.{statement}
 use Rattle.cwr_c.proofs.cwr_check.Tie as tie
@@ -17,7 +17,7 @@ same-length-2 : tie.Need-same-length-2
 same-length-2 c = search needs
 
 returns : tie.Need-returns
-returns c = packed-so (c .before .before .before .before .before .check-short .result) _ _ _ _ (c .packed .ensures) (c .before .before .before .before .before .check-short .ensures)
+returns c = checked (c .before .before .before .before .before .check-short .result) (c .packed .ensures) _ _ _ _ _ _ _ (c .before .before .before .before .before .check-short .ensures)
 
 pub cwr-check-spec : {M : Type 1} → statement M
 cwr-check-spec = tie.close (tie.spec check-short-requires packed-requires same-length same-length-2 returns)

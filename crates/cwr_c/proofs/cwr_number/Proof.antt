@@ -1,6 +1,5 @@
 -- `cwr_c::cwr_number` meets its contract. Assumes nothing.
-use mathlib.Core.Path.{ap, _∙_}
-use Rattle.answers.specs.Numbers.{packedOf}
+use Rattle.cwr_c.proofs.Laws.{numbered}
 use borrow.Author.Needs.{needs}
 use Rattle.cwr_c.proofs.cwr_number.Statement.{statement}
 use Rattle.cwr_c.proofs.cwr_number.Tie as tie
@@ -15,7 +14,7 @@ same-length : tie.Need-same-length
 same-length c = search needs
 
 returns : tie.Need-returns
-returns c = (c .packed .ensures ∙ ap packedOf (c .before .before .before .number .ensures .0), c .before .before .before .number .ensures .1)
+returns c = numbered (c .before .before .before .number .result) (c .packed .ensures) _ _ _ (c .before .before .before .number .ensures)
 
 pub cwr-number-spec : {M : Type 1} → statement M
 cwr-number-spec = tie.close (tie.spec number-requires packed-requires same-length returns)

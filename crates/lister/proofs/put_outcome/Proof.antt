@@ -1,4 +1,4 @@
--- `lister::put_outcome` meets its contract: behind the first line, the records of a file that passes. Assumes nothing.
+-- `lister::put_outcome` meets its contract: after the first line, the records of a file that passes. Assumes nothing.
 use mathlib.Core.Path.{sym, _∙_}
 use native.Mathlib.Omega.{arith}
 use Rattle.format.specs.Lines.{lines}

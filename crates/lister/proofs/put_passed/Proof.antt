@@ -1,4 +1,4 @@
--- `lister::put_passed` meets its contract: six words, one behind the other. Assumes nothing.
+-- `lister::put_passed` meets its contract: six words, one after the other. Assumes nothing.
 use native.Mathlib.Omega.{arith}
 use Rattle.lister.proofs.Texts.{passed-put}
 use borrow.Author.Needs.{needs}

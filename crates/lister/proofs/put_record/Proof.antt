@@ -1,4 +1,4 @@
--- `lister::put_record` meets its contract: five words, one behind the other. Assumes nothing.
+-- `lister::put_record` meets its contract: five words, one after the other. Assumes nothing.
 use native.Mathlib.Omega.{arith}
 use Rattle.rules.specs.Findings.{places}
 use Rattle.lister.proofs.Texts.{record-put}

@@ -1,4 +1,4 @@
--- `lister::put_refused` meets its contract: three words, one behind the other. Assumes nothing.
+-- `lister::put_refused` meets its contract: three words, one after the other. Assumes nothing.
 use native.Mathlib.Omega.{arith}
 use Rattle.lister.proofs.Texts.{refused-put}
 use borrow.Author.Needs.{needs}

@@ -13,7 +13,7 @@ told-requires : tie.Need-told-requires
 told-requires c κs = search needs
 
 returns : tie.Need-returns
-returns c = ap (λ (t : Told). t .groups) (c .told .ensures .0 ∙ ap toldOf (c .before .check .ensures))
+returns c = ap (λ (told : Told). told .groups) (c .told .ensures .0 ∙ ap toldOf (c .before .check .ensures))
 
 pub probe-groups-spec : {M : Type 1} → statement M
 probe-groups-spec = tie.close (tie.spec check-requires told-requires returns)

@@ -1,6 +1,6 @@
--- `probe::probe_number` meets its contract: the answer, packed, and the buffer as numbering leaves it.
-use mathlib.Core.Path.{ap, _∙_}
-use Rattle.answers.specs.Numbers.{packedOf}
+-- `probe::probe_number` meets its contract: the answer in one number, and the buffer as numbering leaves it. Assumes nothing.
+use Rattle.answers.proofs.Exact.{exact-so}
+use Rattle.numbering.proofs.Claims.{near}
 use borrow.Author.Needs.{needs}
 use Rattle.probe.proofs.probe_number.Statement.{statement}
 use Rattle.probe.proofs.probe_number.Tie as tie
@@ -15,7 +15,7 @@ same-length : tie.Need-same-length
 same-length c = search needs
 
 returns : tie.Need-returns
-returns c = (c .packed .ensures ∙ ap packedOf (c .before .before .before .number .ensures .0), c .before .before .before .number .ensures .1)
+returns c = (exact-so (c .packed .ensures) (c .before .before .before .number .ensures .0) (near _ _), c .before .before .before .number .ensures .1)
 
 pub probe-number-spec : {M : Type 1} → statement M
 probe-number-spec = tie.close (tie.spec number-requires packed-requires same-length returns)

@@ -1,6 +1,6 @@
--- `probe::probe_structure` meets its contract: the answer, packed.
-use mathlib.Core.Path.{ap, _∙_}
-use Rattle.answers.specs.Numbers.{packedOf}
+-- `probe::probe_structure` meets its contract: the answer in one number. Assumes nothing.
+use Rattle.format.proofs.At22.{nearby-22}
+use Rattle.answers.proofs.Exact.{exact-so}
 use borrow.Author.Needs.{needs}
 use Rattle.probe.proofs.probe_structure.Statement.{statement}
 use Rattle.probe.proofs.probe_structure.Tie as tie
@@ -12,7 +12,7 @@ packed-requires : tie.Need-packed-requires
 packed-requires c κs = search needs
 
 returns : tie.Need-returns
-returns c = c .packed .ensures ∙ ap packedOf (c .before .check .ensures)
+returns c = exact-so (c .packed .ensures) (c .before .check .ensures) (nearby-22 _ .0)
 
 pub probe-structure-spec : {M : Type 1} → statement M
 probe-structure-spec = tie.close (tie.spec check-requires packed-requires returns)

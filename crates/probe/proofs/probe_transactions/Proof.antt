@@ -13,7 +13,7 @@ told-requires : tie.Need-told-requires
 told-requires c κs = search needs
 
 returns : tie.Need-returns
-returns c = ap (λ (t : Told). t .transactions) (c .told .ensures .0 ∙ ap toldOf (c .before .check .ensures))
+returns c = ap (λ (told : Told). told .transactions) (c .told .ensures .0 ∙ ap toldOf (c .before .check .ensures))
 
 pub probe-transactions-spec : {M : Type 1} → statement M
 probe-transactions-spec = tie.close (tie.spec check-requires told-requires returns)

@@ -2,7 +2,8 @@
 use native.Mathlib.Omega.{arith}
 use mathlib.Core.Path.{sym, ap}
 use borrow.Author.Needs.{needs}
-use Rattle.answers.specs.Numbers.{answerOf, packedOf}
+use Rattle.answers.specs.Numbers.{answerOf}
+use Rattle.answers.specs.Packed.{packedOf}
 use Rattle.answers.proofs.Parts.{told-passed, told-refused}
 use Rattle.answers.proofs.Answer.packed.Statement.{statement}
 use Rattle.answers.proofs.Answer.packed.Tie as tie

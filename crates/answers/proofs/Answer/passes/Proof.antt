@@ -11,7 +11,7 @@ told-requires : tie.Need-told-requires
 told-requires c κs = search needs
 
 returns : tie.Need-returns
-returns c = ap (λ (t : Told). t .passes) (c .told .ensures .0) ∙ told-passes (answerOf (c .before .args .self))
+returns c = ap (λ (told : Told). told .passes) (c .told .ensures .0) ∙ told-passes (answerOf (c .before .args .self))
 
 pub passes-spec : {M : Type 1} → statement M
 passes-spec = tie.close (tie.spec told-requires returns)
