@@ -11,7 +11,8 @@ use Rattle.answers.specs.Claims.{Named, Says}
 use Rattle.answers.proofs.Alone.{exact-says, exact-alone}
 use Rattle.numbering.specs.Outcome.{numberAnswer}
 use Rattle.numbering.proofs.Claims.{near}
-use Rattle.cwr_c.specs.Promises.{OneFits, OfCheck, ReadOff}
+use Rattle.cwr_c.specs.Promises.{OneFits}
+use Rattle.cwr_c.specs.Claims.{OfCheck, ReadOff}
 
 pub one-fits : OneFits
 one-fits = record {
