@@ -7,12 +7,14 @@
  *   bench small        each file a hundredth as long, once, to see that all works
  *   bench once WORK    one work once on the file "right", untimed, and its length;
  *                      read, copy, structure, check, number, or nothing
+ *   bench stack        the stack that each work takes
  *   bench write PATH   writes the file "right" there
  *
  * Status 1 where an answer is not the right one, since a time would say nothing
  * then, and 2 where nothing can be done. */
 #include "files.h"
 #include "read.h"
+#include "stack.h"
 
 /* The structural check alone, refusals 3 to 10; its answer is as cwr_check's. */
 uint64_t probe_structure(const uint8_t *file, size_t length);
@@ -59,6 +61,7 @@ static uint64_t number(struct bench *b) {
 }
 
 static uint64_t (*const works[WORKS])(struct bench *b) = {read_plainly, copy, structure, check, number};
+static const char *const names[WORKS] = {"read", "copy", "structure", "check", "number"};
 
 /* ---- whether they did what is right */
 
@@ -232,7 +235,6 @@ static void measure_only(const char *name, const struct pace *pace) {
 
 /* WORKS where the name is that of no work. */
 static enum work work_named(const char *name) {
-    static const char *const names[WORKS] = {"read", "copy", "structure", "check", "number"};
     enum work work = 0;
     while (work < WORKS && strcmp(names[work], name) != 0)
         work++;
@@ -260,6 +262,41 @@ static void write_right(const char *path) {
     forget(&f);
 }
 
+/* ---- the stack */
+
+struct task {
+    struct bench *bench;
+    enum work work;
+};
+
+static void *do_task(void *lent) {
+    struct task *task = lent;
+    works[task->work](task->bench);
+    return NULL;
+}
+
+static void note_stacks(struct bench *b, size_t most[WORKS]) {
+    for (enum work work = STRUCTURE; work < WORKS; work++) {
+        size_t stack = stack_of(do_task, &(struct task){b, work});
+        most[work] = stack > most[work] ? stack : most[work];
+    }
+}
+
+/* The most of every file, and of each with a first record of no known type: looking for the refusal goes deeper than a right file. */
+static void measure_stacks(void) {
+    size_t most[WORKS] = {0};
+    for (size_t i = 0; i < makers_count; i++) {
+        struct bench b;
+        begin(&b, &makers[i], 100);
+        note_stacks(&b, most);
+        b.file.bytes[0] = b.wiped[0] = 'X';
+        note_stacks(&b, most);
+        end(&b);
+    }
+    for (enum work work = STRUCTURE; work < WORKS; work++)
+        printf("%-10s %6lu bytes of stack\n", names[work], (unsigned long)most[work]);
+}
+
 int main(int words, char **word) {
     const struct pace usual = {20, 100000000, 10, false}, once = {1, 1, 1, false}, cold = {1, 1, 20, true};
     if (words == 1)
@@ -268,6 +305,8 @@ int main(int words, char **word) {
         measure_all(100, &once);
     else if (words == 2 && strcmp(word[1], "cold") == 0)
         measure_only("right", &cold);
+    else if (words == 2 && strcmp(word[1], "stack") == 0)
+        measure_stacks();
     else if (words == 3 && strcmp(word[1], "only") == 0)
         measure_only(word[2], &usual);
     else if (words == 3 && strcmp(word[1], "once") == 0)
@@ -275,6 +314,6 @@ int main(int words, char **word) {
     else if (words == 3 && strcmp(word[1], "write") == 0)
         write_right(word[2]);
     else
-        stop("usage", "bench [small | cold | only NAME | once WORK | write PATH]");
+        stop("usage", "bench [small | cold | only NAME | once WORK | stack | write PATH]");
     return 0;
 }

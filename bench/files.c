@@ -251,7 +251,7 @@ static void make_flawed(struct file *f, uint64_t share) {
     make_works(f, share, 30);
 }
 
-/* TRL's count of records is wrong, behind all that is right. */
+/* TRL's count of records is wrong, after all that is right. */
 static void make_fault(struct file *f, uint64_t share) {
     make_right(f, share);
     f->right_length = f->length - 3;

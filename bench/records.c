@@ -56,7 +56,7 @@ static void put_digits(struct file *f, const struct field *field, uint8_t *at) {
         at[i] = (uint8_t)('0' + below(f, 10));
 }
 
-/* A few words, rarely with a letter beyond ASCII, and blanks behind them. */
+/* A few words, rarely with a letter beyond ASCII, and blanks after them. */
 static void put_text(struct file *f, const struct field *field, uint8_t *at) {
     static const char letters[] = "AAABCDEEEEFGHIIIJKLMNNOOOPRRSSTTUVWYZ\xC9\xD6";
     unsigned i = 0;

@@ -14,6 +14,11 @@ struct timespec {
     long nanoseconds;
 };
 
+/* pthread_attr_t */
+struct thread_kind {
+    uint64_t words[7];
+};
+
 typedef struct _IO_FILE FILE;
 
 void *malloc(size_t length);
@@ -28,6 +33,10 @@ FILE *fopen(const char *restrict path, const char *restrict mode);
 size_t fwrite(const void *restrict bytes, size_t size, size_t count, FILE *restrict file);
 int fclose(FILE *file);
 int clock_gettime(int clock, struct timespec *time);
+int pthread_attr_init(struct thread_kind *kind);
+int pthread_attr_setstack(struct thread_kind *kind, void *stack, size_t length);
+int pthread_create(unsigned long *thread, const struct thread_kind *kind, void *(*call)(void *), void *lent);
+int pthread_join(unsigned long thread, void **answer);
 _Noreturn void exit(int status);
 
 #endif

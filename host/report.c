@@ -56,8 +56,7 @@ static void say_finding(struct out *out, const struct check *check, size_t recor
         say(out, "    finding %u: this program has no words for it\n", number);
         return;
     }
-    say(out, "    finding %u (%s%s%s): %s", number, words->level, words->edit ? ", " : "", words->edit ? words->edit : "",
-        words->sentence);
+    say(out, "    finding %u (%s, %s): %s", number, words->level, words->edit, words->sentence);
     if (words->put)
         say(out, " The society's default: %s.", words->put);
     say(out, "\n");

@@ -5,7 +5,7 @@
 #include "check.h"
 #include "out.h"
 
-/* The end of the transaction that this header begins: the record behind its last. */
+/* The end of the transaction that this header begins: the record after its last. */
 size_t transaction_end(const struct check *check, size_t header);
 
 /* A line for each right: publishers, writers, and both together. */

@@ -16,7 +16,7 @@ struct field {
 
 struct finding {
     const char *level; /* FR, RR, TR or GR */
-    const char *edit;  /* of 001; null where the scope names none */
+    const char *edit;  /* of 001, as docs/FINDINGS.md names it */
     const char *put;   /* what a society puts there; null where it puts nothing */
     const char *sentence;
     struct field fields[MOST_FIELDS];

@@ -5,6 +5,11 @@
  *   even with length 0. Slices that are written must not overlap any other.
  * - No call reads or writes outside the slices it was lent, or keeps anything
  *   of them: equal inputs give equal outcomes.
+ * - Calls may run in several threads at once, as long as none writes what is
+ *   lent to another: between calls nothing is kept, and the library has no
+ *   data of its own that is written.
+ * - A check takes up to 30 KB of stack, and numbering up to 3 KB (measured, by
+ *   `bench/run stack`); 64 KB are enough for any call. No memory is allocated.
  * - A record is the text before a CR LF pair; records count from 0.
  *
  * What is answered by the first three calls
@@ -28,6 +33,9 @@
  *    9  a wrong number in a GRT or the TRL
  *   10  the HDR's version is not 2.2, or its revision not 000 to 002  place 0
  *   11  a buffer that is to be written is too short                 place 0
+ *
+ * The findings, 0 to 46, are listed in docs/FINDINGS.md: the level of each, its
+ * edit in CISAC's specification, the default, and what it says in words.
  */
 #ifndef CWR_H
 #define CWR_H

@@ -75,7 +75,7 @@ struct part {
 };
 
 /* Where the part lies: the values of Guard in src/calls.rs. */
-enum { ANYWHERE = 0, BEFORE_AN_EDGE = 1, BEHIND_AN_EDGE = 2 };
+enum { ANYWHERE = 0, BEFORE_AN_EDGE = 1, AFTER_AN_EDGE = 2 };
 
 /* A multiple of every size that a page has. */
 #define EDGE ((size)65536)

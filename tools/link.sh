@@ -1,5 +1,6 @@
-# Sourced, not run: how a C program over an archive of the library is built and started. The archive is for x86-64 and so is the program;
-# on another processor both the building and the running are done with what the Rattle kit has for that.
+# Sourced, not run: how a C program over an archive of the library is built and started. The archive is for x86-64 and so is the program,
+# on whatever machine it is built: compiler, linker and C library are those of the Rattle kit, the headers those of tools/libc. Only to
+# start it another processor needs more, the emulator of the kit.
 #
 # Before it is used, `made` is the folder for what is built, and `me` the name of the script that sources this, for its messages.
 
@@ -31,28 +32,42 @@ archive_of() {
   archive=target/staticlib/lib$1.a
 }
 
-is_x86_64() {
-  [[ $(uname -m) == x86_64 ]]
+# independent_archive: builds the independent program of tests/ as an archive with the library's calls, for this machine; `archive` is its
+# path
+independent_archive() {
+  needs cargo
+  build 'the independent program' cargo build --release --offline --example stand_in --manifest-path tests/Cargo.toml \
+    --target-dir target/comparison
+  archive=target/comparison/release/examples/libstand_in.a
 }
 
-# find_kit: the kit's tools for a machine of another kind
+# find_kit: the kit's tools for this machine, and its C library for x86-64
 find_kit() {
   local kit
   needs rt
   kit=${RATTLE_HOME:-$(dirname "$(dirname "$(readlink -f "$(type -P rt)")")")}
   kit_tools=$kit/on/$(uname -m)/toolchain
   kit_lib=$kit_tools/lib
-  needs "$kit_tools"/bin/{clang,ld.lld,qemu-x86_64} "$kit_lib/ld-linux-x86-64.so.2"
+}
+
+is_x86_64() {
+  [[ $(uname -m) == x86_64 ]]
+}
+
+# forget_emulator: the emulator takes no setting but the words of `start`
+forget_emulator() {
+  local name
+  for name in "${!QEMU_@}"; do unset "$name"; done
 }
 
 # start_of PROGRAM: `start` is the command that starts a program for x86-64
 start_of() {
-  if is_x86_64; then
-    start=("$1")
-  else
-    find_kit
-    start=("$kit_tools/bin/qemu-x86_64" "$kit_lib/ld-linux-x86-64.so.2" --library-path "$kit_lib" "$1")
-  fi
+  start=("$1")
+  is_x86_64 && return
+  find_kit
+  start=("$kit_tools/bin/qemu-x86_64" "$kit_lib/ld-linux-x86-64.so.2" --library-path "$kit_lib" "$1")
+  needs "${start[@]:0:2}"
+  forget_emulator
 }
 
 # program_of CRATE: builds the program that a crate is; `start` is the command that starts it
@@ -63,7 +78,7 @@ program_of() {
 }
 
 # link_program OUT FLAG.. -- FILE..: compiles each FILE that ends in .c with the flags and links all FILEs to the program OUT. `start` is
-# then the command that starts it. CROSS_FLAGS are flags for another machine than x86-64 only.
+# then the command that starts it.
 link_program() {
   local out=$1 flags=() objects=() file
   shift
@@ -72,29 +87,18 @@ link_program() {
     shift
   done
   shift
-  if is_x86_64; then
-    needs gcc
-    build "${out##*/}" gcc "${flags[@]}" -o "$out" "$@"
-    start_of "$out"
-    return
-  fi
   find_kit
+  needs "$kit_tools"/bin/{clang,ld.lld}
   for file in "$@"; do
     if [[ $file == *.c ]]; then
       objects+=("$out.${file//\//-}.o")
-      build "${out##*/}" "$kit_tools/bin/clang" --target=x86_64-unknown-linux-gnu "${flags[@]}" ${CROSS_FLAGS[@]+"${CROSS_FLAGS[@]}"} \
-        -fPIE -c -o "${objects[-1]}" "$file"
+      build "${out##*/}" "$kit_tools/bin/clang" --target=x86_64-unknown-linux-gnu -nostdinc -isystem tools/libc "${flags[@]}" -fPIE -c \
+        -o "${objects[-1]}" "$file"
     else
       objects+=("$file")
     fi
   done
-  build "${out##*/}" "$kit_tools/bin/ld.lld" -pie -dynamic-linker "$kit_lib/ld-linux-x86-64.so.2" -o "$out" \
+  build "${out##*/}" "$kit_tools/bin/ld.lld" -pie -dynamic-linker /lib64/ld-linux-x86-64.so.2 -o "$out" \
     "$kit_lib"/{Scrt1.o,crti.o,crtbeginS.o} "${objects[@]}" "$kit_lib"/{libc.so.6,libc_nonshared.a,crtendS.o,crtn.o}
   start_of "$out"
-}
-
-# forget_emulator: the emulator takes no setting but the words of `start`
-forget_emulator() {
-  local name
-  for name in "${!QEMU_@}"; do unset "$name"; done
 }

@@ -100,7 +100,7 @@ pub enum Guard {
     /// The end of each part and buffer lies directly before a page that can
     /// neither be read nor written.
     After,
-    /// The begin lies directly behind such a page.
+    /// The begin lies directly after such a page.
     Before,
 }
 

@@ -8,53 +8,48 @@ use std::sync::OnceLock;
 const COMPARE: &str = env!("CARGO_BIN_EXE_compare");
 const MADE: &str = env!("CARGO_TARGET_TMPDIR");
 
-/// Driver and probe, built from the one source; none without a C compiler.
-fn drivers() -> Option<&'static [PathBuf; 2]> {
-    static DRIVERS: OnceLock<Option<[PathBuf; 2]>> = OnceLock::new();
-    let build = || {
-        if Command::new("cc").arg("--version").output().is_err() {
-            println!("no C compiler: the driver is not tried");
-            return None;
-        }
-        let archive = Path::new(COMPARE).with_file_name("examples/libstand_in.a");
-        assert!(
-            archive.exists(),
-            "cargo test without a choice builds the archive"
-        );
-        let build = |name: &str, define: &[&str]| {
-            let made = Path::new(MADE).join(name);
-            let mut command = Command::new("cc");
-            command
-                .args([
-                    "-std=c11",
-                    "-Wall",
-                    "-Wextra",
-                    "-Werror",
-                    "-pedantic",
-                    "-O2",
-                ])
-                .args(define)
-                .arg("-o")
-                .arg(&made)
-                .arg(concat!(env!("CARGO_MANIFEST_DIR"), "/driver.c"))
-                .arg(&archive)
-                .args(["-lpthread", "-ldl", "-lm"]);
-            let output = command.output().expect("cc runs");
-            assert!(
-                output.status.success(),
-                "{}",
-                String::from_utf8_lossy(&output.stderr)
-            );
-            made
-        };
-        Some([build("driver", &[]), build("probe", &["-DPROBE"])])
-    };
-    DRIVERS.get_or_init(build).as_ref()
+/// Driver and probe, built from the one source by the C compiler that cargo
+/// links with.
+fn drivers() -> &'static [PathBuf; 2] {
+    static DRIVERS: OnceLock<[PathBuf; 2]> = OnceLock::new();
+    DRIVERS.get_or_init(|| [build("driver", &[]), build("probe", &["-DPROBE"])])
 }
 
-/// Compares with this fault; nothing where the driver is not tried.
-fn compare(options: &[&str], fault: &str) -> Option<(Option<i32>, String)> {
-    let [driver, probe] = drivers()?;
+fn build(name: &str, define: &[&str]) -> PathBuf {
+    let archive = Path::new(COMPARE).with_file_name("examples/libstand_in.a");
+    assert!(
+        archive.exists(),
+        "cargo test without a choice builds the archive"
+    );
+    let made = Path::new(MADE).join(name);
+    let output = Command::new("cc")
+        .args([
+            "-std=c11",
+            "-Wall",
+            "-Wextra",
+            "-Werror",
+            "-pedantic",
+            "-O2",
+        ])
+        .args(define)
+        .arg("-o")
+        .arg(&made)
+        .arg(concat!(env!("CARGO_MANIFEST_DIR"), "/driver.c"))
+        .arg(&archive)
+        .args(["-lpthread", "-ldl", "-lm"])
+        .output()
+        .expect("cc runs");
+    assert!(
+        output.status.success(),
+        "{}",
+        String::from_utf8_lossy(&output.stderr)
+    );
+    made
+}
+
+/// Compares with this fault.
+fn compare(options: &[&str], fault: &str) -> (Option<i32>, String) {
+    let [driver, probe] = drivers();
     let output = Command::new(COMPARE)
         .env("TMPDIR", MADE)
         .env("STAND_IN", fault)
@@ -66,15 +61,13 @@ fn compare(options: &[&str], fault: &str) -> Option<(Option<i32>, String)> {
         .output()
         .expect("compare runs");
     let text = String::from_utf8(output.stdout).expect("text");
-    Some((output.status.code(), text))
+    (output.status.code(), text)
 }
 
 #[test]
 fn no_difference() {
     for options in [&["--files", "1500"][..], &["--guard"]] {
-        let Some((code, text)) = compare(options, "") else {
-            return;
-        };
+        let (code, text) = compare(options, "");
         assert_eq!(code, Some(0), "{text}");
         assert!(
             text.contains("\nwithin ") && text.contains("\ncounted "),
@@ -96,9 +89,7 @@ fn faults_about_memory_are_found() {
         ("changes-file", "after", "is changed"),
         ("changes-table", "after", "is changed"),
     ] {
-        let Some((code, text)) = compare(&["--guard", "--files", "100"], fault) else {
-            return;
-        };
+        let (code, text) = compare(&["--guard", "--files", "100"], fault);
         assert_eq!(code, Some(1), "{fault}: {text}");
         assert!(text.starts_with("difference\n"), "{fault}: {text}");
         assert!(

@@ -20,7 +20,7 @@ compare [--files N] [--seed S] [--one SEED] [--limits] [--only CALL] [--guard]
   --only CALL     one call alone: check, within, number, bits, structure,
                   counted or listing
   --guard         everything that is lent lies directly before a page that
-                  cannot be used, and once more directly behind one
+                  cannot be used, and once more directly after one
   --wait SECONDS  how long an answer may take (300)
   --workers N     so many files at a time (as many as there are processors)
 

@@ -32,6 +32,7 @@ fn all() -> &'static [Case] {
         lending::all(&mut all);
         types(&mut all);
         steps(&mut all);
+        two_faults(&mut all);
         numbers(&mut all);
         versions(&mut all);
         bytes(&mut all);
@@ -130,6 +131,21 @@ fn steps(all: &mut Vec<Case>) {
             add(all, kind, join(&records));
         }
     }
+}
+
+/// The scope's file of two faults. The one that is looked for first is
+/// answered, whichever stands first.
+fn two_faults(all: &mut Vec<Case>) {
+    use Call::{Check, Counted, Listing, Number, Structure, Within};
+    let mut work = works::plain_work();
+    let writer = work[1].clone();
+    work.resize(8, writer);
+    let mut records = works::file("NWR", vec![work]);
+    records[3] = records[0].clone();
+    records[9].pop();
+    let kind = "bad length in record 9 and a second HDR at 3".to_string();
+    let calls = [Check, Within, Number, Structure, Counted, Listing];
+    add_with(all, kind, join(&records), &calls);
 }
 
 /// Each byte of each number, another digit and a blank.

@@ -6,7 +6,7 @@ use super::damage::{all, FAMILIES};
 use super::*;
 use crate::calls::expected;
 use crate::reference::types::{find, Class};
-use crate::reference::{numbering, structure, Answer};
+use crate::reference::{listing, numbering, structure, Answer};
 
 fn refusal(answer: Answer) -> u32 {
     match answer {
@@ -248,6 +248,26 @@ fn boundary_answers() {
     }
     assert!(case(boundary::number()).is_none());
     assert!(case(each::FIRST + each::number()).is_none());
+}
+
+/// Every call that takes a file answers the scope's file of two faults by 6
+/// at 9.
+#[test]
+fn two_faults() {
+    let mut cases = (each::FIRST..).map_while(case);
+    let kind = "bad length in record 9 and a second HDR at 3";
+    let case = cases.find(|case| case.kind == kind).unwrap();
+    let answered = |call| expected(&case.request(call, Guard::None)).packed;
+    let calls = [
+        Call::Check,
+        Call::Within,
+        Call::Number,
+        Call::Structure,
+        Call::Counted,
+    ];
+    assert_eq!(calls.map(answered), [0x6_0000_0009; 5]);
+    assert_eq!(listing(&case.file), b"REFUSED 6 9\n");
+    assert_eq!(case.calls, [&calls[..], &[Call::Listing]].concat());
 }
 
 /// Totals and numbers that do not fit 32 or 16 bits.

@@ -1,5 +1,5 @@
-#ifndef CROSS_STRING_H
-#define CROSS_STRING_H
+#ifndef LIBC_STRING_H
+#define LIBC_STRING_H
 #include <stddef.h>
 void *memchr(const void *bytes, int byte, size_t length);
 int memcmp(const void *a, const void *b, size_t length);

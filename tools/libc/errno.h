@@ -1,5 +1,5 @@
-#ifndef CROSS_ERRNO_H
-#define CROSS_ERRNO_H
+#ifndef LIBC_ERRNO_H
+#define LIBC_ERRNO_H
 int *__errno_location(void);
 #define errno (*__errno_location())
 #define ENOENT 2

@@ -1,5 +1,5 @@
-#ifndef CROSS_STDINT_H
-#define CROSS_STDINT_H
+#ifndef LIBC_STDINT_H
+#define LIBC_STDINT_H
 typedef __UINT8_TYPE__ uint8_t;
 typedef __UINT32_TYPE__ uint32_t;
 typedef __UINT64_TYPE__ uint64_t;

@@ -1,6 +1,6 @@
 /* used by the double of host/test */
-#ifndef CROSS_SYS_UIO_H
-#define CROSS_SYS_UIO_H
+#ifndef LIBC_SYS_UIO_H
+#define LIBC_SYS_UIO_H
 #include <unistd.h>
 struct iovec {
     void *iov_base;

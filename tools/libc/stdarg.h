@@ -1,5 +1,5 @@
-#ifndef CROSS_STDARG_H
-#define CROSS_STDARG_H
+#ifndef LIBC_STDARG_H
+#define LIBC_STDARG_H
 typedef __builtin_va_list va_list;
 #define va_start(list, last) __builtin_va_start(list, last)
 #define va_end(list) __builtin_va_end(list)

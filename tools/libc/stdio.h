@@ -1,5 +1,5 @@
-#ifndef CROSS_STDIO_H
-#define CROSS_STDIO_H
+#ifndef LIBC_STDIO_H
+#define LIBC_STDIO_H
 #include <stdarg.h>
 #include <stddef.h>
 typedef struct _IO_FILE FILE;

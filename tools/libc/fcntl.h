@@ -1,5 +1,5 @@
-#ifndef CROSS_FCNTL_H
-#define CROSS_FCNTL_H
+#ifndef LIBC_FCNTL_H
+#define LIBC_FCNTL_H
 #define O_RDONLY 0
 #define O_WRONLY 1
 #define O_CREAT 0100

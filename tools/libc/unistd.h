@@ -1,5 +1,5 @@
-#ifndef CROSS_UNISTD_H
-#define CROSS_UNISTD_H
+#ifndef LIBC_UNISTD_H
+#define LIBC_UNISTD_H
 #include <stddef.h>
 typedef long ssize_t;
 ssize_t read(int from, void *bytes, size_t length);

@@ -1,5 +1,5 @@
-#ifndef CROSS_STDLIB_H
-#define CROSS_STDLIB_H
+#ifndef LIBC_STDLIB_H
+#define LIBC_STDLIB_H
 #include <stddef.h>
 void *malloc(size_t length);
 void *calloc(size_t count, size_t length);

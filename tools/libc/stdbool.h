@@ -1,5 +1,5 @@
-#ifndef CROSS_STDBOOL_H
-#define CROSS_STDBOOL_H
+#ifndef LIBC_STDBOOL_H
+#define LIBC_STDBOOL_H
 #define bool _Bool
 #define true 1
 #define false 0

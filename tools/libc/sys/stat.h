@@ -1,5 +1,5 @@
-#ifndef CROSS_SYS_STAT_H
-#define CROSS_SYS_STAT_H
+#ifndef LIBC_SYS_STAT_H
+#define LIBC_SYS_STAT_H
 
 struct timespec {
     long tv_sec, tv_nsec;

@@ -1,5 +1,4 @@
-/* Prints what these headers say of the machine. On x86-64 host/test compiles it with them and with the machine's own; both must print the
- * same. */
+/* Prints what the headers that it is compiled with say of the machine. */
 #include <errno.h>
 #include <fcntl.h>
 #include <stddef.h>
