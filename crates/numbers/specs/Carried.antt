@@ -12,32 +12,32 @@ use Rattle.numbers.specs.declared.Numbers.the-variants.{Nothing, Group, 
 
 -- two numbers beside one another, and two words
 unfoldable pub pair : ℕ → ℕ → Bytes
-pair t r = decimal 8 t ++ decimal 8 r
+pair m r = decimal 8 m ++ decimal 8 r
 
 unfoldable pub words : ℕ → ℕ → Bytes
-words t r = bytesOf 8 t ++ bytesOf 8 r
+words m r = bytesOf 8 m ++ bytesOf 8 r
 
 abbrev pub digitsOf : Numbers → Bytes
 digitsOf Nothing = []
 digitsOf (Group g) = decimal 5 g
-digitsOf (Prefix t r) = words t r
-digitsOf (Closing g t r) = decimal 5 g ++ words t r
-digitsOf (Totals g t r) = decimal 5 g ++ pair t r
+digitsOf (Prefix m r) = words m r
+digitsOf (Closing g m r) = decimal 5 g ++ words m r
+digitsOf (Totals g m r) = decimal 5 g ++ pair m r
 
 -- where they start, counted from 1, and how many bytes they take
 abbrev pub startOf : Numbers → ℕ
 startOf Nothing = 4
 startOf (Group g) = 7
-startOf (Prefix t r) = 4
-startOf (Closing g t r) = 4
-startOf (Totals g t r) = 4
+startOf (Prefix m r) = 4
+startOf (Closing g m r) = 4
+startOf (Totals g m r) = 4
 
 abbrev pub sizeOf : Numbers → ℕ
 sizeOf Nothing = 0
 sizeOf (Group g) = 5
-sizeOf (Prefix t r) = 8 + 8
-sizeOf (Closing g t r) = 5 + (8 + 8)
-sizeOf (Totals g t r) = 5 + (8 + 8)
+sizeOf (Prefix m r) = 8 + 8
+sizeOf (Closing g m r) = 5 + (8 + 8)
+sizeOf (Totals g m r) = 5 + (8 + 8)
 
 -- they are what the format expects of a record of the class, and stand where it has them
 pub record Carried (n : Counts) (c : Class) (r : Numbers) : Type 0 where

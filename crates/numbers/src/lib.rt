@@ -174,9 +174,9 @@ impl Numbers {
         match self {
             Numbers::Nothing => true,
             Numbers::Group(g) => stands(g, record, 7, 5),
-            Numbers::Prefix(t, r) => words_stand(t, r, record, 4),
-            Numbers::Closing(g, t, r) => stands(g, record, 4, 5) & words_stand(t, r, record, 9),
-            Numbers::Totals(g, t, r) => stands(g, record, 4, 5) & pair_stands(t, r, record, 9),
+            Numbers::Prefix(m, r) => words_stand(m, r, record, 4),
+            Numbers::Closing(g, m, r) => stands(g, record, 4, 5) & words_stand(m, r, record, 9),
+            Numbers::Totals(g, m, r) => stands(g, record, 4, 5) & pair_stands(m, r, record, 9),
         }
     }
 
@@ -188,14 +188,14 @@ impl Numbers {
         match self {
             Numbers::Nothing => {}
             Numbers::Group(g) => write(g, out, 7, 5),
-            Numbers::Prefix(t, r) => write_words(t, r, out, 4),
-            Numbers::Closing(g, t, r) => {
+            Numbers::Prefix(m, r) => write_words(m, r, out, 4),
+            Numbers::Closing(g, m, r) => {
                 write(g, out, 4, 5);
-                write_words(t, r, out, 9)
+                write_words(m, r, out, 9)
             }
-            Numbers::Totals(g, t, r) => {
+            Numbers::Totals(g, m, r) => {
                 write(g, out, 4, 5);
-                write_pair(t, r, out, 9)
+                write_pair(m, r, out, 9)
             }
         }
     }
@@ -226,18 +226,18 @@ fn write(n: u64, out: &mut [u8], start: usize, size: usize)
 }
 
 // Transactions and records stand beside one another, in eight digits each: both compared, and both written.
-fn pair_stands(t: u64, r: u64, record: &[u8], start: usize) -> bool
+fn pair_stands(m: u64, r: u64, record: &[u8], start: usize) -> bool
     requires { ⌜ (1 ≤ start) × (start - 1 + (8 + 8) ≤ length (now «record»)) ⌝ }
-    ensures { λ s. ⌜ s ≡ sameBytes (fieldOf start (8 + 8) (now («record» .entry))) (pair t r) ⌝ }
+    ensures { λ s. ⌜ s ≡ sameBytes (fieldOf start (8 + 8) (now («record» .entry))) (pair m r) ⌝ }
 {
-    stands(t, record, start, 8) & stands(r, record, start + 8, 8)
+    stands(m, record, start, 8) & stands(r, record, start + 8, 8)
 }
 
-fn write_pair(t: u64, r: u64, out: &mut [u8], start: usize)
+fn write_pair(m: u64, r: u64, out: &mut [u8], start: usize)
     requires { ⌜ (1 ≤ start) × (start - 1 + (8 + 8) ≤ length (now out)) ⌝ }
-    ensures { λ _. ⌜ now (out .exit) ≡ over start (pair t r) (now (out .entry)) ⌝ }
+    ensures { λ _. ⌜ now (out .exit) ≡ over start (pair m r) (now (out .entry)) ⌝ }
 {
-    write(t, out, start, 8);
+    write(m, out, start, 8);
     write(r, out, start + 8, 8);
 }
 
@@ -249,11 +249,11 @@ fn word_stands(x: u64, record: &[u8], start: usize) -> bool
     text::is_word(x, text::field(record, start, 8))
 }
 
-fn words_stand(t: u64, r: u64, record: &[u8], start: usize) -> bool
+fn words_stand(m: u64, r: u64, record: &[u8], start: usize) -> bool
     requires { ⌜ (1 ≤ start) × (start - 1 + (8 + 8) ≤ length (now «record»)) ⌝ }
-    ensures { λ s. ⌜ s ≡ sameBytes (fieldOf start (8 + 8) (now («record» .entry))) (words t r) ⌝ }
+    ensures { λ s. ⌜ s ≡ sameBytes (fieldOf start (8 + 8) (now («record» .entry))) (words m r) ⌝ }
 {
-    word_stands(t, record, start) & word_stands(r, record, start + 8)
+    word_stands(m, record, start) & word_stands(r, record, start + 8)
 }
 
 fn write_word(x: u64, out: &mut [u8], start: usize)
@@ -265,10 +265,10 @@ fn write_word(x: u64, out: &mut [u8], start: usize)
     text::store_eight(x, &mut out[a..e]);
 }
 
-fn write_words(t: u64, r: u64, out: &mut [u8], start: usize)
+fn write_words(m: u64, r: u64, out: &mut [u8], start: usize)
     requires { ⌜ (1 ≤ start) × (start - 1 + (8 + 8) ≤ length (now out)) ⌝ }
-    ensures { λ _. ⌜ now (out .exit) ≡ over start (words t r) (now (out .entry)) ⌝ }
+    ensures { λ _. ⌜ now (out .exit) ≡ over start (words m r) (now (out .entry)) ⌝ }
 {
-    write_word(t, out, start);
+    write_word(m, out, start);
     write_word(r, out, start + 8);
 }

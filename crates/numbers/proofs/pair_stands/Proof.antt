@@ -21,7 +21,7 @@ returns : tie.Need-returns
 unfolding pair
 returns c =
     let g = c .before .before .before .args in
-    compared (g .record .now) (g .start) 8 (decimal 8 (g .t)) (length-decimal 8 (g .t)) (decimal 8 (g .r)) 8 (search needs) (search needs) _ _ (c .before .stands .ensures) (c .stands2 .ensures)
+    compared (g .record .now) (g .start) 8 (decimal 8 (g .m)) (length-decimal 8 (g .m)) (decimal 8 (g .r)) 8 (search needs) (search needs) _ _ (c .before .stands .ensures) (c .stands2 .ensures)
 
 pub pair-stands-spec : {M : Type 1} → statement M
 pair-stands-spec = tie.close (tie.spec stands-requires add-stands stands-requires-2 returns)
