@@ -11,14 +11,14 @@ use Rattle.format.specs.Stages.{stages, spots, begins}
 use Rattle.rules.specs.Tables.{entries, isIn}
 use Rattle.rules.specs.Values.{areZeros, isDate, daysIn, isDuration, isIswc, iswcSum, shareOf, badShare}
 use Rattle.rules.specs.Header.{is16, is17, is18, is19, is20, is21, is22, is23}
-use Rattle.rules.specs.Publisher.{typeInForce, earlierE, is25, is26, is27, is28, is29, is30, is31, is32, is33, is34, is35, is36, is37}
+use Rattle.rules.specs.Publisher.{chain, typeInForce, earlierE, is25, is26, is27, is28, is29, is30, is31, is32, is33, is34, is35, is36, is37}
 use Rattle.rules.specs.Writer.{designationInForce, is38, is39, is40, is41, is42}
 use Rattle.rules.specs.Other.{is24, is43, dateInForce, durationInForce, is44, is45, is46}
 use Rattle.rules.specs.Findings.{ownFindings}
 use Rattle.rules.specs.Totals.{publishersTotal, writersTotal, is1, is2, is3}
 use Rattle.rules.specs.Writers.{is4, is5, is6, is7, is10}
-use Rattle.rules.specs.Order.{taken, reached, is8}
-use Rattle.rules.specs.Chains.{chain, is11, is12, is13, is14}
+use Rattle.rules.specs.Order.{inOrder, is8}
+use Rattle.rules.specs.Chains.{is11, is12, is13, is14}
 use Rattle.rules.specs.Works.{is0, is9, is15, headerFindings, transactionFindings}
 use Rattle.rules.specs.Listing.{listingTables}
 use Rattle.rules.proofs.Made.{Entry, _is_, made, header, publisher, writer}
@@ -97,7 +97,7 @@ examples =
     ∷ found (nwr (127 is "SER000000" ∷ [])) (whole ∷ made "INS" 75 [] ∷ []) (only 22 ∷ nothing ∷ nothing ∷ [])
     -- details: 24 is skipped by the order
     ∷ found (nwr []) (whole ∷ made "TER" 24 [] ∷ made "MSG" 185 [] ∷ writer "SWR" (130 is "00000" ∷ 138 is "00000" ∷ 146 is "00000" ∷ []) ∷ []) (nothing ∷ nothing ∷ only 24 ∷ only 24 ∷ nothing ∷ [])
-    -- sequence numbers 05, 05, 06; one without two digits, and the one behind it
+    -- sequence numbers 05, 05, 06; one without two digits, and the one after it
     ∷ found (nwr []) (owner (20 is "05" ∷ []) ∷ publisher "SPU" (20 is "05" ∷ 77 is "AM" ∷ []) ∷ publisher "OPU" (20 is "06" ∷ []) ∷ half ∷ []) (nothing ∷ only 25 ∷ nothing ∷ nothing ∷ nothing ∷ [])
     ∷ found (nwr []) (owner (20 is "0x" ∷ []) ∷ publisher "OPU" (20 is "01" ∷ []) ∷ half ∷ []) (nothing ∷ only 25 ∷ only 25 ∷ nothing ∷ [])
     ∷ found (nwr []) (owner (22 is " " ∷ 31 is " " ∷ 76 is "Y" ∷ 77 is "XX" ∷ []) ∷ half ∷ []) (only 12 ∷ (26 ∷ 27 ∷ 28 ∷ 29 ∷ 31 ∷ []) ∷ nothing ∷ [])
@@ -111,5 +111,5 @@ examples =
     ∷ []
 
 all-examples : map computed examples ≡ map said examples
-unfolding examples computed said numbersFrom nothing only whole owner half spu rec nwr writer publisher header made transactionFindings headerFindings ownFindings is0 is1 is2 is3 is4 is5 is6 is7 is8 is9 is10 is11 is12 is13 is14 is15 is16 is17 is18 is19 is20 is21 is22 is23 is24 is25 is26 is27 is28 is29 is30 is31 is32 is33 is34 is35 is36 is37 is38 is39 is40 is41 is42 is43 is44 is45 is46 fieldOf isBlank areDigits numberOf isIn entries areZeros isDate daysIn isDuration isIswc iswcSum shareOf badShare typeInForce earlierE designationInForce dateInForce durationInForce publishersTotal writersTotal taken reached spots stages begins chain
+unfolding examples computed said numbersFrom nothing only whole owner half spu rec nwr writer publisher header made transactionFindings headerFindings ownFindings is0 is1 is2 is3 is4 is5 is6 is7 is8 is9 is10 is11 is12 is13 is14 is15 is16 is17 is18 is19 is20 is21 is22 is23 is24 is25 is26 is27 is28 is29 is30 is31 is32 is33 is34 is35 is36 is37 is38 is39 is40 is41 is42 is43 is44 is45 is46 fieldOf isBlank areDigits numberOf isIn entries areZeros isDate daysIn isDuration isIswc iswcSum shareOf badShare typeInForce earlierE designationInForce dateInForce durationInForce publishersTotal writersTotal inOrder spots stages begins chain
 all-examples = refl

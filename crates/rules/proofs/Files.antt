@@ -17,14 +17,14 @@ use Rattle.format.proofs.Examples.{fileA}
 use Rattle.rules.specs.Tables.{Tables, entries, isIn, rightTable}
 use Rattle.rules.specs.Values.{areZeros, isDate, daysIn, isDuration, isIswc, iswcSum, shareOf, badShare}
 use Rattle.rules.specs.Header.{is16, is17, is18, is19, is20, is21, is22, is23}
-use Rattle.rules.specs.Publisher.{typeInForce, earlierE, is25, is26, is27, is28, is29, is30, is31, is32, is33, is34, is35, is36, is37}
+use Rattle.rules.specs.Publisher.{chain, typeInForce, earlierE, is25, is26, is27, is28, is29, is30, is31, is32, is33, is34, is35, is36, is37}
 use Rattle.rules.specs.Writer.{designationInForce, is38, is39, is40, is41, is42}
 use Rattle.rules.specs.Other.{is24, is43, dateInForce, durationInForce, is44, is45, is46}
 use Rattle.rules.specs.Findings.{ownFindings, setOf, bytesOf, countOf, lowestOf, level, worst}
 use Rattle.rules.specs.Totals.{publishersTotal, writersTotal, is1, is2, is3}
 use Rattle.rules.specs.Writers.{is4, is5, is6, is7, is10}
-use Rattle.rules.specs.Order.{taken, reached, is8}
-use Rattle.rules.specs.Chains.{chain, is11, is12, is13, is14}
+use Rattle.rules.specs.Order.{inOrder, is8}
+use Rattle.rules.specs.Chains.{is11, is12, is13, is14}
 use Rattle.rules.specs.Works.{is0, is9, is15, headerFindings, transactionFindings}
 use Rattle.rules.specs.Verdicts.{findingBytes, rejects, raised, isStray, groupFindings, fileFindings, transactionVerdicts, groupVerdicts, fileVerdicts}
 use Rattle.rules.specs.Outcome.{answer, Outcome, check}
@@ -180,7 +180,7 @@ listings =
     ∷ []
 
 all-files : (map computed examples ≡ map said examples) × (map printed listings ≡ map shown listings)
-unfolding examples computed said goes stops lent findingsB none listings printed shown texts fileA fileB opening closing header writer made check answer rightTable structure judged lines isText decimal rows22 version22 tree findingBytes rejects raised isStray groupFindings fileFindings transactionVerdicts groupVerdicts fileVerdicts setOf bytesOf level worst transactionFindings headerFindings ownFindings is0 is1 is2 is3 is4 is5 is6 is7 is8 is9 is10 is11 is12 is13 is14 is15 is16 is17 is18 is19 is20 is21 is22 is23 is24 is25 is26 is27 is28 is29 is30 is31 is32 is33 is34 is35 is36 is37 is38 is39 is40 is41 is42 is43 is44 is45 is46 fieldOf isBlank areDigits numberOf isIn entries areZeros isDate daysIn isDuration isIswc iswcSum shareOf badShare typeInForce earlierE designationInForce dateInForce durationInForce publishersTotal writersTotal taken reached spots stages begins chain figure recordLine answerLine listed listing countOf lowestOf
+unfolding examples computed said goes stops lent findingsB none listings printed shown texts fileA fileB opening closing header writer made check answer rightTable structure judged lines isText decimal rows22 version22 tree findingBytes rejects raised isStray groupFindings fileFindings transactionVerdicts groupVerdicts fileVerdicts setOf bytesOf level worst transactionFindings headerFindings ownFindings is0 is1 is2 is3 is4 is5 is6 is7 is8 is9 is10 is11 is12 is13 is14 is15 is16 is17 is18 is19 is20 is21 is22 is23 is24 is25 is26 is27 is28 is29 is30 is31 is32 is33 is34 is35 is36 is37 is38 is39 is40 is41 is42 is43 is44 is45 is46 fieldOf isBlank areDigits numberOf isIn entries areZeros isDate daysIn isDuration isIswc iswcSum shareOf badShare typeInForce earlierE designationInForce dateInForce durationInForce publishersTotal writersTotal inOrder spots stages begins chain figure recordLine answerLine listed listing countOf lowestOf
 all-files = (refl, refl)
 
 -- more than the program reads
