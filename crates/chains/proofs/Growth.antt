@@ -12,8 +12,8 @@ use Rattle.format.specs.Ascii.{ascii}
 use Rattle.format.specs.Bytes.{Bytes, sameBytes}
 use Rattle.format.specs.Fields.{areDigits, numberOf}
 use Rattle.rules.specs.Records.{isType, isPublisher, only, any}
-use Rattle.rules.specs.Publisher.{sequenceNumber, isE, isAQ}
-use Rattle.rules.specs.Chains.{inChain, chain, anyBelow, anyChain, manyE, joinedByOPU, paidE, aqBehind}
+use Rattle.rules.specs.Publisher.{sequenceNumber, inChain, chain, isE, aqSPU}
+use Rattle.rules.specs.Chains.{anyBelow, anyChain, manyE, joinedByOPU, paidE, aqAfterPaidE}
 use Rattle.rules.proofs.Lists.{only-kept, only-left, any-last, count-last}
 use Rattle.rules.proofs.Types.{of-two}
 use Rattle.chains.specs.Tallies.{begunBy}
@@ -103,12 +103,16 @@ joined-more (q ∷ c) r e =
     ∙ joins (isType "SPU" q) (any (isType "OPU") (q ∷ c)) (isType "SPU" r)
 
 -- 14
-pub behind-more : (paid : Bool) (c : List Bytes) (r : Bytes)
-    → aqBehind paid (c ++ r ∷ []) ≡ (aqBehind paid c || ((paid || any paidE c) && isType "SPU" r && isAQ r))
-behind-more paid [] r = rw (or-false paid) (or-false (paid && isType "SPU" r && isAQ r))
-behind-more paid (q ∷ c) r =
-    rw (behind-more (paid || paidE q) c r, or-assoc paid (paidE q) (any paidE c))
-    (sym (or-assoc (paid && isType "SPU" q && isAQ q) (aqBehind (paid || paidE q) c) ((paid || (paidE q || any paidE c)) && isType "SPU" r && isAQ r)))
+pub paid-more : (c : List Bytes) (r : Bytes) → aqAfterPaidE (c ++ r ∷ []) ≡ (aqAfterPaidE c || (any paidE c && aqSPU r))
+paid-more [] r = or-false (paidE r && false) ∙ and-false (paidE r)
+paid-more (q ∷ c) r =
+    rw (any-last aqSPU c r, paid-more c r) (regrouped (paidE q) (any aqSPU c) (aqSPU r) (aqAfterPaidE c) (any paidE c))
+  where
+    regrouped : (p a s b e : Bool) → (p && (a || s) || (b || e && s)) ≡ (p && a || b || (p || e) && s)
+    regrouped true true s b e = refl
+    regrouped true false true b e = sym (or-true b)
+    regrouped true false false b e = ap (λ x. b || x) (and-false e)
+    regrouped false a s b e = refl
 
 pub begun-more : (c : List Bytes) (r : Bytes) → begunBy (c ++ r ∷ []) ≡ cond (eqb (begunBy c) 0) (cond (isType "SPU" r) 1 2) (begunBy c)
 begun-more [] r = refl

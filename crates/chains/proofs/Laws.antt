@@ -3,23 +3,22 @@
 use Prim.Native.Nat.{ℕ, zero, suc, _+_, _≤_, _<_}
 use native.Mathlib.Omega.{arith}
 use mathlib.Core.Path.{_≡_, refl, sym, ap, _∙_}
-use mathlib.Core.Bool.{Bool, true, false, not, cond, _&&_, _||_, and-eq-true-iff, and-true, and-false, and-assoc, or-comm}
+use mathlib.Core.Bool.{Bool, true, false, not, cond, _&&_, _||_, and-eq-true-iff, and-false, and-assoc, or-comm}
 use mathlib.Core.List.{List, [], _∷_, _++_}
 use lib.Dec.{ltb, eqb}
-use lib.ListN.{length, getD, set, replicate, getD-replicate, length-set, length-replicate, length-take, length-drop}
+use lib.ListN.{length, getD, set, replicate, getD-replicate, length-set, length-replicate}
 use lib.Seq.{getD-set-same, getD-set-other}
 use borrow.Author.Tests.{eqb-true, eq-eqb, lt-ltb}
-use Rattle.format.specs.Bytes.{Bytes, All, sameBytes}
-use Rattle.format.specs.Fields.{fieldOf, areDigits, numberOf}
-use Rattle.format.proofs.Logic.{is-true, is-T, sameBytes→eq, sameBytes-refl}
+use Rattle.format.specs.Bytes.{Bytes}
+use Rattle.format.specs.Fields.{areDigits, numberOf}
 use Rattle.rules.specs.Records.{isType, isPublisher, only, any}
-use Rattle.rules.specs.Publisher.{sequenceNumber, isE, isAQ, sameChain}
-use Rattle.rules.specs.Totals.{PR, MR, SR, publisherShare, sumOf}
-use Rattle.rules.specs.Chains.{inChain, chain, anyBelow, anyChain, manyE, joinedByOPU, aqBehind, allShares, countsSPU, paidE, begunBySPU, shareless, is11, is12, is13, is14}
-use Rattle.rules.proofs.Lists.{any-last, count-last, sum-only-last, any-only, any-same, only-fewer, sum-most}
-use Rattle.rules.proofs.Fields.{all-shares-most, two-digits}
-use Rattle.chains.specs.Tallies.{begunBy, ownE, ownShares, TallyOf, Chains, Tallied, Small, Whole}
-use Rattle.chains.proofs.Growth.{chain-kept, chain-left, elsewhere, same-or-not, below-left, flag-more, many-more, joined-more, behind-more, begun-more}
+use Rattle.rules.specs.Publisher.{sequenceNumber, inChain, chain, isE, isAQ, eSPU, earlierE}
+use Rattle.rules.specs.Totals.{PR, MR, SR, publisherShare}
+use Rattle.rules.specs.Chains.{anyBelow, anyChain, manyE, joinedByOPU, aqAfterPaidE, allShares, countsSPU, paidE, begunBySPU, shareless, is11, is12, is13, is14}
+use Rattle.rules.proofs.Lists.{any-last, count-last, sum-only-last, only-fewer, sum-most}
+use Rattle.rules.proofs.Fields.{all-shares-most}
+use Rattle.chains.specs.Tallies.{begunBy, ownShares, TallyOf, Chains, Tallied, Small}
+use Rattle.chains.proofs.Growth.{chain-kept, chain-left, elsewhere, same-or-not, below-left, flag-more, many-more, joined-more, paid-more, begun-more}
 
 -- ---- one record more
 
@@ -78,7 +77,9 @@ module _ (c : Chains) (k : ℕ) (h : k < 100) (ds : List Bytes) (r : Bytes) (t :
 
   behind-then : (c .behind || (getD (c .paid) k false && isType "SPU" r && isAQ r)) ≡ is14 (ds ++ r ∷ [])
   unfolding is14
-  behind-then = flag-more (aqBehind false) k ds r _ inside (rw (t .paid .at k h) (behind-more false before r)) (c .behind) h (t .behind)
+  behind-then =
+      flag-more aqAfterPaidE k ds r _ inside
+      (rw (t .paid .at k h, and-assoc (any paidE before) (isType "SPU" r) (isAQ r)) (paid-more before r)) (c .behind) h (t .behind)
 
   paid-then : (getD (c .paid) k false || (isE r && ltb 0 (allShares r))) ≡ any paidE (before ++ r ∷ [])
   paid-then =
@@ -91,7 +92,7 @@ module _ (c : Chains) (k : ℕ) (h : k < 100) (ds : List Bytes) (r : Bytes) (t :
       record {
         begun = tally-more (c .begun) 0 begunBy k ds r _ h inside (t .begun) (rw (t .begun .at k h) (sym (begun-more before r)));
         es = tally-more (c .es) 0 (λ rs. length (only isE rs)) k ds r _ h inside (t .es) (rw (t .es .at k h) (sym (count-last isE before r)));
-        own = tally-more (c .own) false (any ownE) k ds r _ h inside (t .own) (rw (t .own .at k h) (sym (any-last ownE before r)));
+        own = tally-more (c .own) false (any eSPU) k ds r _ h inside (t .own) (rw (t .own .at k h) (sym (any-last eSPU before r)));
         paid = tally-more (c .paid) false (any paidE) k ds r _ h inside (t .paid) paid-then;
         sums =
             tally-more (c .sums) 0 ownShares k ds r _ h inside (t .sums)
@@ -118,12 +119,12 @@ module _ (c : Chains) (ds : List Bytes) (r : Bytes) (t : Tallied c ds) where
       record {
         begun = tally-left (c .begun) 0 begunBy ds r out (t .begun);
         es = tally-left (c .es) 0 (λ rs. length (only isE rs)) ds r out (t .es);
-        own = tally-left (c .own) false (any ownE) ds r out (t .own);
+        own = tally-left (c .own) false (any eSPU) ds r out (t .own);
         paid = tally-left (c .paid) false (any paidE) ds r out (t .paid);
         sums = tally-left (c .sums) 0 ownShares ds r out (t .sums);
         many = flag-left manyE (c .many) out (t .many);
         joined = flag-left joinedByOPU (c .joined) out (t .joined);
-        behind = flag-left (aqBehind false) (c .behind) out (t .behind);
+        behind = flag-left aqAfterPaidE (c .behind) out (t .behind);
       }
 
   -- it is no publisher
@@ -146,7 +147,7 @@ begins =
     record {
       begun = tally-none 0 begunBy refl;
       es = tally-none 0 (λ rs. length (only isE rs)) refl;
-      own = tally-none false (any ownE) refl;
+      own = tally-none false (any eSPU) refl;
       paid = tally-none false (any paidE) refl;
       sums = tally-none 0 ownShares refl;
       many = refl;
@@ -169,53 +170,20 @@ small c ds t h =
           (omega (arith, sum-most allShares 299997 all-shares-most (only countsSPU (chain k ds)), only-fewer countsSPU (chain k ds), chain-fewer k ds));
     }
 
--- ---- an SPU of type E in the chain of a record
+-- ---- an E SPU in the chain of a record, for 32
 
--- its sequence number ends at position 21
-pub whole-of : (r : Bytes) → 21 ≤ length r → Whole r
-unfolding fieldOf
-whole-of r h = rw (length-take, length-drop) (omega arith)
-
-both-ways : (a b : Bool) → (a ≡ true → b ≡ true) → (b ≡ true → a ≡ true) → a ≡ b
-both-ways true b f g = sym (f refl)
-both-ways false true f g = g refl
-both-ways false false f g = refl
-
--- two digits write k just where they are the two digits that write k
-same-number : (f g : Bytes) (k : ℕ) → length f ≡ 2 → length g ≡ 2 → areDigits g ≡ true → numberOf g ≡ k → (areDigits f && eqb (numberOf f) k) ≡ sameBytes f g
-same-number f g k h j d n =
-    both-ways (areDigits f && eqb (numberOf f) k) (sameBytes f g)
-    (λ e. let b = and-eq-true-iff (areDigits f) (eqb (numberOf f) k) .0 e in
-    rw (two-digits f g h j (b .0) d (eqb-true (numberOf f) k (b .1) ∙ sym n)) (is-true (sameBytes g g) (sameBytes-refl g)))
-    (λ e. rw (sameBytes→eq f g (is-T (sameBytes f g) e), d) (eq-eqb (numberOf g) k n))
-
--- a record is in chain k just where it is in the chain of a record of chain k
-in-same : (k : ℕ) (r p : Bytes) → Whole r → Whole p → inChain k r ≡ true → inChain k p ≡ sameChain r p
-in-same k r p hr hp inside =
+pub knows : (k : ℕ) (r : Bytes) → inChain k r ≡ true → (own : List Bool) (ds : List Bytes) → k < 100 → TallyOf own false (any eSPU) ds
+    → getD own k false ≡ earlierE ds r
+unfolding earlierE
+knows k r inside own ds h t =
     let b = and-eq-true-iff (isPublisher r && areDigits (sequenceNumber r)) (eqb (numberOf (sequenceNumber r)) k) .0 inside in
     let d : areDigits (sequenceNumber r) ≡ true = and-eq-true-iff (isPublisher r) (areDigits (sequenceNumber r)) .0 (b .0) .1 in
-    and-assoc (isPublisher p) (areDigits (sequenceNumber p)) (eqb (numberOf (sequenceNumber p)) k)
-    ∙ ap (λ (x : Bool). isPublisher p && x) (same-number (sequenceNumber p) (sequenceNumber r) k hp hr d (eqb-true (numberOf (sequenceNumber r)) k (b .1)))
-    ∙ rw (d, and-true (isPublisher p))
-
-module _ (k : ℕ) (r : Bytes) (hr : Whole r) (inside : inChain k r ≡ true) where
-  all-same : (ds : List Bytes) → All Whole ds → All (λ p. (inChain k p && ownE p) ≡ (sameChain r p && isType "SPU" p && isE p)) ds
-  all-same [] w = tt
-  all-same (p ∷ ds) w =
-      (ap (λ (b : Bool). b && ownE p) (in-same k r p hr (w .0) inside) ∙ sym (and-assoc (sameChain r p) (isType "SPU" p) (isE p)), all-same ds (w .1))
-
-  pub knows : (own : List Bool) (ds : List Bytes) → k < 100 → TallyOf own false (any ownE) ds → All Whole ds
-      → getD own k false ≡ any (λ p. sameChain r p && isType "SPU" p && isE p) ds
-  unfolding chain
-  knows own ds h t w =
-      t .at k h
-      ∙ any-only (inChain k) ownE ds
-      ∙ any-same (λ p. inChain k p && ownE p) (λ p. sameChain r p && isType "SPU" p && isE p) ds (all-same ds w)
+    rw (d, eqb-true (numberOf (sequenceNumber r)) k (b .1)) (t .at k h)
 
 -- a record in no chain
-pub knows-none : (r : Bytes) (ds : List Bytes) → areDigits (sequenceNumber r) ≡ false → any (λ p. sameChain r p && isType "SPU" p && isE p) ds ≡ false
-knows-none r [] e = refl
-knows-none r (p ∷ ds) e = rw (e, and-false (isPublisher p)) (rw e at (knows-none r ds e))
+pub knows-none : (r : Bytes) (ds : List Bytes) → areDigits (sequenceNumber r) ≡ false → earlierE ds r ≡ false
+unfolding earlierE
+knows-none r ds e = rw e
 
 -- ---- 12, as `shareless` looks for it
 

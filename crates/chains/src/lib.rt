@@ -1,14 +1,14 @@
 // The chains of publishers in a transaction, findings 11 to 14 and 32: one tally for each two-digit sequence number, 00 to 99, all empty
 // at the start.
 ghost use mathlib.Core.Path.{_≡_};
-ghost use mathlib.Core.Bool.{true, false, cond, _&&_};
+ghost use mathlib.Core.Bool.{true, false, cond};
 ghost use mathlib.Core.List.{List, [], _∷_, _++_};
 ghost use Prim.Native.Nat.{_≤_, _<_};
-ghost use Rattle.format.specs.Bytes.{Bytes, All};
+ghost use Rattle.format.specs.Bytes.{Bytes};
 ghost use Rattle.rules.specs.Records.{isType, any};
-ghost use Rattle.rules.specs.Publisher.{isE, isAQ, sameChain};
-ghost use Rattle.rules.specs.Chains.{inChain, allShares, is12};
-ghost use Rattle.chains.specs.Tallies.{begunBy, ownE, ownShares, TallyOf, chainsOf, Tallied, Small, Whole};
+ghost use Rattle.rules.specs.Publisher.{inChain, isE, isAQ, eSPU, earlierE};
+ghost use Rattle.rules.specs.Chains.{allShares, is12};
+ghost use Rattle.chains.specs.Tallies.{begunBy, ownShares, TallyOf, chainsOf, Tallied, Small};
 
 // What the chains have shown so far.
 pub struct Met {
@@ -63,7 +63,7 @@ pub fn join(
 // Whether chain k has an SPU of type E, for finding 32.
 pub fn knows_e(k: usize, own: &[bool; 100]) -> bool
     requires { ⌜ k < 100 ⌝ }
-    ensures { λ b. ⌜ ((ds : List Bytes) (r : Bytes) → TallyOf (now (own .entry)) false (any ownE) ds → All Whole ds → Whole r → inChain k r ≡ true → b ≡ any (λ p. sameChain r p && isType "SPU" p && isE p) ds) ⌝ }
+    ensures { λ b. ⌜ ((ds : List Bytes) (r : Bytes) → TallyOf (now (own .entry)) false (any eSPU) ds → inChain k r ≡ true → b ≡ earlierE ds r) ⌝ }
 {
     own[k]
 }

@@ -12,7 +12,7 @@ use lib.ListN.{length, getD}
 use Rattle.format.specs.Ascii.{ascii}
 use Rattle.format.specs.Bytes.{Bytes, sameBytes}
 use Rattle.format.specs.Fields.{areDigits, numberOf}
-use Rattle.rules.specs.Records.{isPublisher, only, lastOf}
+use Rattle.rules.specs.Records.{isPublisher, only, latest}
 use Rattle.rules.specs.Publisher.{sequenceNumber, follows, is25}
 use Rattle.format.proofs.Tests.{by-cases}
 use Rattle.rules.proofs.Fields.{field-short, two-below}
@@ -60,7 +60,7 @@ module _ (r : Bytes) where
   pub found-25 : isPublisher r ≡ true → (before : List Bytes) (last here : ℕ) (first : Bool)
       → last ≡ lastSequence before → here ≡ sequenceOf r → first ≡ sameBytes (ascii "01") (sequenceNumber r) → not (goesOn last first here) ≡ is25 before r
   unfolding is25 lastSequence
-  found-25 h before last here first l s f = rw (l, s, f, h) (ap not (before-is (lastOf (only isPublisher before))))
+  found-25 h before last here first l s f = rw (l, s, f, h) (ap not (before-is (latest (only isPublisher before))))
 
 -- 01 by its two bytes
 pub zero-one : (f : Bytes) → length f ≡ 2 → (eqb 48 (getD f 0 0) && eqb 49 (getD f 1 0)) ≡ sameBytes (ascii "01") f
@@ -68,7 +68,7 @@ zero-one f h = sym (rw (and-true (eqb 49 (getD f 1 0)))) ∙ ap (sameBytes (asci
 
 -- ---- with a record more
 
-last-append : (xs : List Bytes) (r : Bytes) → lastOf (xs ++ r ∷ []) ≡ some r
+last-append : (xs : List Bytes) (r : Bytes) → latest (xs ++ r ∷ []) ≡ some r
 last-append [] r = refl
 last-append (x ∷ []) r = refl
 last-append (x ∷ y ∷ xs) r = last-append (y ∷ xs) r
@@ -83,10 +83,10 @@ only-append (x ∷ xs) r =
 pub last-more : (before : List Bytes) (r : Bytes) → lastSequence (before ++ r ∷ []) ≡ cond (isPublisher r) (sequenceOf r) (lastSequence before)
 unfolding lastSequence
 last-more before r =
-    ap (λ (xs : List Bytes). sequenceOr101 (lastOf xs)) (only-append before r)
+    ap (λ (xs : List Bytes). sequenceOr101 (latest xs)) (only-append before r)
     ∙ by-cases (isPublisher r)
     (λ y. rw y (ap sequenceOr101 (last-append (only isPublisher before) r)))
-    (λ z. rw z (ap (λ (xs : List Bytes). sequenceOr101 (lastOf xs)) (append-nil (only isPublisher before))))
+    (λ z. rw z (ap (λ (xs : List Bytes). sequenceOr101 (latest xs)) (append-nil (only isPublisher before))))
 
 -- ---- it is at most 101
 
@@ -100,4 +100,4 @@ or-most (some p) = sequence-most p
 
 pub last-most : (before : List Bytes) → lastSequence before ≤ 101
 unfolding lastSequence
-last-most before = or-most (lastOf (only isPublisher before))
+last-most before = or-most (latest (only isPublisher before))

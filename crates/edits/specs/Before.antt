@@ -5,7 +5,7 @@ use mathlib.Core.Option.{Option, none, some}
 use mathlib.Core.List.{List}
 use Rattle.format.specs.Bytes.{Bytes}
 use Rattle.format.specs.Fields.{areDigits, numberOf}
-use Rattle.rules.specs.Records.{isPublisher, only, lastOf}
+use Rattle.rules.specs.Records.{isPublisher, only, latest}
 use Rattle.rules.specs.Publisher.{sequenceNumber}
 
 -- the sequence number of a publisher record; 100 where it isn't two digits
@@ -19,4 +19,4 @@ sequenceOr101 (some p) = sequenceOf p
 
 -- that of the last publisher record
 unfoldable pub lastSequence : List Bytes → ℕ
-lastSequence before = sequenceOr101 (lastOf (only isPublisher before))
+lastSequence before = sequenceOr101 (latest (only isPublisher before))

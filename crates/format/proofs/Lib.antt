@@ -4,6 +4,7 @@ pub mod Decimal
 pub mod Lines
 pub mod Slots
 pub mod Passes
+pub mod Spots
 pub mod Tree
 pub mod Written
 pub mod Answers

@@ -18,7 +18,8 @@ use Rattle.kinds.specs.Rows.{codeRow, kinds, rowFor, typeOf, noRow, firs
 use Rattle.kinds.specs.declared.Row.{Row}
 use Rattle.format.proofs.Tests.{by-cases, both, same→eq}
 use Rattle.kinds.proofs.First.{has, distinct, only, short}
-use Rattle.kinds.proofs.Spots.{sameSpots, sameSpots→eq, stageListed, no-spots, begins-none, no-sort-of}
+use Rattle.format.proofs.Spots.{typesPass, no-spots, begins-none}
+use Rattle.kinds.proofs.Spots.{sameSpots, sameSpots→eq, no-sort-of}
 
 code-unknown : codeRow (noType) ≡ noRow
 unfolding spots begins stages sortOf
@@ -137,8 +138,8 @@ of-class k p all named C r h found =
 listed : Bytes → Bool
 listed t = known (classOf (rowOf rows22 t))
 
-stages-listed : every (stageListed listed) stages ≡ true
-unfolding stages stageListed listed rows22
+stages-listed : every (typesPass listed) stages ≡ true
+unfolding stages typesPass listed rows22
 stages-listed = refl
 
 module _ (t : Bytes) (none : rowOf rows22 t ≡ noType) where

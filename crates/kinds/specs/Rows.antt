@@ -15,12 +15,6 @@ use Rattle.kinds.specs.declared.Shape.{Shape}
 
 -- ---- a row of the format as the code has it
 
-abbrev pub stageOf : Spot → ℕ
-stageOf (spot stage rank) = stage
-
-abbrev pub rankOf : Spot → ℕ
-rankOf (spot stage rank) = rank
-
 -- the type's spot of index i; stages are counted from 1, so that stage 0 says that there is none
 abbrev pub spotAt : ℕ → Bytes → Spot
 spotAt i t = getD (spots t) i (spot 0 0)
@@ -56,10 +50,10 @@ codeRow (row t n c) =
       c = getD t 2 0;
       place = code c;
       length = n;
-      first = stageOf (spotAt 0 t);
-      second = stageOf (spotAt 1 t);
-      third = stageOf (spotAt 2 t);
-      rank = rankOf (spotAt 0 t);
+      first = spotAt 0 t .stage;
+      second = spotAt 1 t .stage;
+      third = spotAt 2 t .stage;
+      rank = spotAt 0 t .rank;
       alone = begins t;
       sort = sortOf t;
     }

@@ -9,9 +9,9 @@ ghost use Rattle.format.specs.Bytes.{Bytes};
 ghost use Rattle.format.specs.Table.{detail};
 ghost use Rattle.format.specs.Cwr22.{cwr22};
 ghost use Rattle.format.specs.Checks.{cls};
-ghost use Rattle.rules.specs.Order.{reached, is8};
+ghost use Rattle.rules.specs.Order.{is8};
 ghost use Rattle.kinds.specs.Rows.{rowFor};
-ghost use Rattle.order.specs.Standing.{standing};
+ghost use Rattle.order.specs.Walk.{reached, standing};
 
 // The stage and the rank in it that the last record took, and whether some record could take none.
 pub struct Order {
@@ -32,7 +32,7 @@ impl Order {
         }
     }
 
-    // Behind one record more, of that row. A type with no spot is one of finding 24 and is passed over.
+    // After one record more, of that row. A type with no spot is one of finding 24 and is passed over.
     pub fn with(self, row: Row) -> Order
         ensures { λ o. ⌜ ((ds : List Bytes) (r : Bytes) → row ≡ rowFor (take 3 r) → cls cwr22 r ≡ detail → standing self ≡ reached ds → standing o ≡ reached (ds ++ r ∷ [])) ⌝ }
     {
@@ -63,7 +63,7 @@ impl Order {
     }
 
     // Whether a record of the row may take its spot in that stage; stage 0 is none. A leader may in its stage again and in a later one,
-    // a bracketed type behind its leader but not behind a later bracket, and NPR and IND as the first of a later stage.
+    // a bracketed type after its leader but not after a later bracket, and NPR and IND as the first of a later stage.
     fn takes(self, row: Row, stage: u8) -> bool
         ensures { λ r. ⌜ r ≡ (ltb 0 stage && ((eqb (row .rank) 0 && leb (self .stage) stage) || (eqb (self .stage) stage && leb (self .rank) (row .rank)) || (row .alone && ltb (self .stage) stage))) ⌝ }
     {

@@ -1,12 +1,12 @@
--- The numbers that fields hold: how large they are, and that two digits are known by their number. Assumes nothing.
+-- The numbers that fields hold: how large they are. Assumes nothing.
 use Prim.Native.Nat.{ℕ, _+_, _-_, _*_, _^_, _≤_, _<_}
 use native.Mathlib.Nat.{pow-suc, pow-le-pow-right, mul-le-mul-right}
 use native.Mathlib.Omega.{arith}
-use mathlib.Core.Path.{_≡_, refl, sym, ap, _∙_}
-use mathlib.Core.Bool.{Bool, true, false, cond, _&&_, and-eq-true-iff}
+use mathlib.Core.Path.{_≡_, refl}
+use mathlib.Core.Bool.{Bool, true, false, cond, and-eq-true-iff}
 use mathlib.Core.List.{[], _∷_}
 use lib.Dec.{leb, lit<}
-use lib.ListN.{length, getD, length-take}
+use lib.ListN.{length, length-take}
 use borrow.Author.Tests.{leb-true}
 use Rattle.format.specs.Bytes.{Bytes}
 use Rattle.format.specs.Fields.{fieldOf, isDigit, areDigits, digit, numberFrom, numberOf}
@@ -52,34 +52,3 @@ share-most f h = most (areDigits f) (omega (arith, number-below f, pow-le-pow-ri
 pub all-shares-most : (r : Bytes) → allShares r ≤ 299997
 all-shares-most r =
     omega (arith, share-most (fieldOf 116 5 r) (field-short 116 5 r), share-most (fieldOf 124 5 r) (field-short 124 5 r), share-most (fieldOf 132 5 r) (field-short 132 5 r))
-
--- two digits are known by the number that they write
-digits-same : (a b x y : ℕ) → areDigits (a ∷ b ∷ []) ≡ true → areDigits (x ∷ y ∷ []) ≡ true → numberOf (a ∷ b ∷ []) ≡ numberOf (x ∷ y ∷ [])
-    → a ∷ b ∷ [] ≡ x ∷ y ∷ []
-unfolding areDigits numberOf
-digits-same a b x y d g e =
-    let da = both a (isDigit b && true) d in
-    let db = both b true (da .1) in
-    let dx = both x (isDigit y && true) g in
-    let dy = both y true (dx .1) in
-    let n : 10 * (10 * 0 + (a - 48)) + (b - 48) ≡ 10 * (10 * 0 + (x - 48)) + (y - 48) = rw (da .0, db .0, dx .0, dy .0) at e in
-    let p : a ≡ x = omega (arith, digit-range a (da .0), digit-range b (db .0), digit-range x (dx .0), digit-range y (dy .0)) in
-    let q : b ≡ y = omega (arith, digit-range a (da .0), digit-range b (db .0), digit-range x (dx .0), digit-range y (dy .0)) in
-    cc
-  where
-    both : (a : ℕ) (t : Bool) → (isDigit a && t) ≡ true → (isDigit a ≡ true) × (t ≡ true)
-    both a t e = and-eq-true-iff (isDigit a) t .0 e
-
-two-bytes : (f : Bytes) → length f ≡ 2 → f ≡ getD f 0 0 ∷ getD f 1 0 ∷ []
-two-bytes [] h = absurd (omega arith)
-two-bytes (a ∷ []) h = absurd (omega arith)
-two-bytes (a ∷ b ∷ []) h = refl
-two-bytes (a ∷ b ∷ c ∷ f) h = absurd (omega arith)
-
-pub two-digits : (f g : Bytes) → length f ≡ 2 → length g ≡ 2 → areDigits f ≡ true → areDigits g ≡ true → numberOf f ≡ numberOf g → f ≡ g
-two-digits f g h k d t e =
-    let p = two-bytes f h in
-    let q = two-bytes g k in
-    p
-    ∙ digits-same (getD f 0 0) (getD f 1 0) (getD g 0 0) (getD g 1 0) (ap areDigits (sym p) ∙ d) (ap areDigits (sym q) ∙ t) (ap numberOf (sym p) ∙ e ∙ ap numberOf q)
-    ∙ sym q

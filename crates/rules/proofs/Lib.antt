@@ -1,6 +1,7 @@
 pub mod Lists
 pub mod Types
 pub mod Fields
+pub mod Order
 pub mod Joined
 pub mod Each
 pub mod Outcomes

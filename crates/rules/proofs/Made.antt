@@ -11,14 +11,14 @@ use Rattle.format.specs.Stages.{stages, spots, begins}
 use Rattle.rules.specs.Tables.{entries, isIn}
 use Rattle.rules.specs.Values.{areZeros, isDate, daysIn, isDuration, isIswc, iswcSum, shareOf, badShare}
 use Rattle.rules.specs.Header.{is16, is17, is18, is19, is20, is21, is22, is23}
-use Rattle.rules.specs.Publisher.{typeInForce, earlierE, is25, is26, is27, is28, is29, is30, is31, is32, is33, is34, is35, is36, is37}
+use Rattle.rules.specs.Publisher.{chain, typeInForce, earlierE, is25, is26, is27, is28, is29, is30, is31, is32, is33, is34, is35, is36, is37}
 use Rattle.rules.specs.Writer.{designationInForce, is38, is39, is40, is41, is42}
 use Rattle.rules.specs.Other.{is24, is43, dateInForce, durationInForce, is44, is45, is46}
 use Rattle.rules.specs.Findings.{fieldFindings, ownFindings}
 use Rattle.rules.specs.Totals.{publishersTotal, writersTotal, is1, is2, is3}
 use Rattle.rules.specs.Writers.{is4, is5, is6, is7, is10}
-use Rattle.rules.specs.Order.{taken, reached, is8}
-use Rattle.rules.specs.Chains.{chain, is11, is12, is13, is14}
+use Rattle.rules.specs.Order.{inOrder, is8}
+use Rattle.rules.specs.Chains.{is11, is12, is13, is14}
 use Rattle.rules.specs.Works.{is0, is9, is15, headerFindings, transactionFindings}
 use Rattle.rules.specs.Listing.{listingTables}
 
@@ -56,5 +56,5 @@ numbersFrom n (b ∷ bs) = cond b (n ∷ numbersFrom (suc n) bs) (numbersFrom (s
 
 -- of a header and its details, in a group for NWR, with tolerance 6
 unfoldable pub foundOn : Bytes → List Bytes → List (List ℕ)
-unfolding numbersFrom made header publisher writer transactionFindings headerFindings fieldFindings ownFindings is0 is1 is2 is3 is4 is5 is6 is7 is8 is9 is10 is11 is12 is13 is14 is15 is16 is17 is18 is19 is20 is21 is22 is23 is24 is25 is26 is27 is28 is29 is30 is31 is32 is33 is34 is35 is36 is37 is38 is39 is40 is41 is42 is43 is44 is45 is46 fieldOf isBlank areDigits numberOf isIn entries areZeros isDate daysIn isDuration isIswc iswcSum shareOf badShare typeInForce earlierE designationInForce dateInForce durationInForce publishersTotal writersTotal taken reached spots stages begins chain
+unfolding numbersFrom made header publisher writer transactionFindings headerFindings fieldFindings ownFindings is0 is1 is2 is3 is4 is5 is6 is7 is8 is9 is10 is11 is12 is13 is14 is15 is16 is17 is18 is19 is20 is21 is22 is23 is24 is25 is26 is27 is28 is29 is30 is31 is32 is33 is34 is35 is36 is37 is38 is39 is40 is41 is42 is43 is44 is45 is46 fieldOf isBlank areDigits numberOf isIn entries areZeros isDate daysIn isDuration isIswc iswcSum shareOf badShare typeInForce earlierE designationInForce dateInForce durationInForce publishersTotal writersTotal inOrder spots stages begins chain
 foundOn h ds = map (numbersFrom 0) (transactionFindings listingTables 6 (ascii "NWR") (record { header = h; details = ds }))

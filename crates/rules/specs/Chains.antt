@@ -1,22 +1,14 @@
--- The chains of publishers in a transaction, findings 11 to 14.
+-- The chains of publishers in a transaction, findings 11 to 14. What a chain is stands in Publisher, because 32 asks for chains too.
 use Prim.Native.Nat.{ℕ, zero, suc, _+_}
 use mathlib.Core.Bool.{Bool, false, _&&_, _||_}
 use mathlib.Core.List.{List, [], _∷_}
 use lib.Dec.{ltb, eqb}
 use lib.ListN.{length}
 use Rattle.format.specs.Bytes.{Bytes}
-use Rattle.format.specs.Fields.{areDigits, numberOf}
 use Rattle.format.specs.Structure.{firstOf}
-use Rattle.rules.specs.Records.{isType, isPublisher, only, any}
-use Rattle.rules.specs.Publisher.{sequenceNumber, isE, isAQ, hasShare}
+use Rattle.rules.specs.Records.{isType, only, any}
+use Rattle.rules.specs.Publisher.{chain, isE, isAQ, aqSPU, hasShare}
 use Rattle.rules.specs.Totals.{PR, MR, SR, publisherShare, sumOf}
-
--- the publisher records, in order, whose sequence number is two digits of value k
-abbrev pub inChain : ℕ → Bytes → Bool
-inChain k r = isPublisher r && areDigits (sequenceNumber r) && eqb (numberOf (sequenceNumber r)) k
-
-unfoldable pub chain : ℕ → List Bytes → List Bytes
-chain k details = only (inChain k) details
 
 -- some chain of a number below n
 abbrev pub anyBelow : ℕ → (List Bytes → Bool) → List Bytes → Bool
@@ -63,9 +55,10 @@ is13 ds = anyChain joinedByOPU ds
 abbrev pub paidE : Bytes → Bool
 paidE r = isE r && hasShare r
 
-abbrev pub aqBehind : Bool → List Bytes → Bool
-aqBehind paid [] = false
-aqBehind paid (r ∷ rs) = (paid && isType "SPU" r && isAQ r) || aqBehind (paid || paidE r) rs
+-- there is such an E, and after it an AQ SPU
+abbrev pub aqAfterPaidE : List Bytes → Bool
+aqAfterPaidE [] = false
+aqAfterPaidE (r ∷ rs) = (paidE r && any aqSPU rs) || aqAfterPaidE rs
 
 unfoldable pub is14 : List Bytes → Bool
-is14 ds = anyChain (aqBehind false) ds
+is14 ds = anyChain aqAfterPaidE ds

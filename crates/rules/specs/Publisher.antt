@@ -1,5 +1,5 @@
 -- Findings on a publisher record, SPU or OPU. Two of them look at the records before it in its transaction.
-use Prim.Native.Nat.{suc}
+use Prim.Native.Nat.{ℕ, suc}
 use mathlib.Core.Bool.{Bool, not, cond, _&&_, _||_}
 use mathlib.Core.Option.{Option, none, some}
 use mathlib.Core.List.{List}
@@ -9,7 +9,7 @@ use Rattle.format.specs.Bytes.{Bytes, sameBytes, among}
 use Rattle.format.specs.Fields.{fieldOf, isBlank, areDigits, numberOf}
 use Rattle.rules.specs.Tables.{Tables, societySize, isIn, publisherTypes}
 use Rattle.rules.specs.Values.{entered, zeros, spaces, fullShare, halfShare, shareOf, badShare}
-use Rattle.rules.specs.Records.{isType, isPublisher, only, any, lastOf}
+use Rattle.rules.specs.Records.{isType, isPublisher, only, any, latest}
 
 -- ---- fields: start and size
 
@@ -50,6 +50,16 @@ societySR r = fieldOf 129 3 r
 abbrev pub shareSR : Bytes → Bytes
 shareSR r = fieldOf 132 5 r
 
+-- ---- chains
+
+-- in chain k are the publisher records whose sequence number is two digits of value k; a record without two digits is in no chain
+abbrev pub inChain : ℕ → Bytes → Bool
+inChain k r = isPublisher r && areDigits (sequenceNumber r) && eqb (numberOf (sequenceNumber r)) k
+
+-- those among the details, in order
+unfoldable pub chain : ℕ → List Bytes → List Bytes
+chain k details = only (inChain k) details
+
 -- ---- findings
 
 -- 25: the sequence number is two digits, equal to that of the publisher record before or one more; the first is 01
@@ -62,7 +72,7 @@ follows (some p) r =
 
 -- P1, TR: the sequence number does not follow
 unfoldable pub is25 : List Bytes → Bytes → Bool
-is25 before r = isPublisher r && not (follows (lastOf (only isPublisher before)) r)
+is25 before r = isPublisher r && not (follows (latest (only isPublisher before)) r)
 
 -- P2, TR: SPU party number blank
 unfoldable pub is26 : Bytes → Bool
@@ -108,17 +118,20 @@ hasShare r = ltb 0 (shareOf (sharePR r)) || ltb 0 (shareOf (shareMR r)) || ltb 0
 unfoldable pub is31 : Bytes → Bool
 is31 r = isPublisher r && hasShare r && not (isE r || isAQ r)
 
--- the publisher records of a chain have the same two digits as sequence number; a record without two digits is in no chain
-abbrev pub sameChain : Bytes → Bytes → Bool
-sameChain r p = isPublisher p && areDigits (sequenceNumber r) && sameBytes (sequenceNumber p) (sequenceNumber r)
+-- an SPU of type E; of type AQ
+abbrev pub eSPU : Bytes → Bool
+eSPU r = isType "SPU" r && isE r
 
--- an E SPU of its chain stands among them
+abbrev pub aqSPU : Bytes → Bool
+aqSPU r = isType "SPU" r && isAQ r
+
+-- it is in a chain, and an E SPU of that chain is among the records before
 unfoldable pub earlierE : List Bytes → Bytes → Bool
-earlierE before r = any (λ p. sameChain r p && isType "SPU" p && isE p) before
+earlierE before r = areDigits (sequenceNumber r) && any eSPU (chain (numberOf (sequenceNumber r)) before)
 
 -- P32, TR: AQ SPU with no earlier E SPU in its chain, or in no chain
 unfoldable pub is32 : List Bytes → Bytes → Bool
-is32 before r = isType "SPU" r && isAQ r && not (earlierE before r)
+is32 before r = aqSPU r && not (earlierE before r)
 
 -- P8, FR, N: OPU indicator not blank, Y or N
 unfoldable pub is33 : Bytes → Bool
@@ -140,11 +153,11 @@ indicatorInForce r = cond (is33 r) default33 (cond (is34 r) default34 (indicator
 
 -- 36: entered and not in the table
 abbrev pub strange : Tables → Bytes → Bool
-strange t f = entered f && not (isIn societySize (t .societies) f)
+strange tables f = entered f && not (isIn societySize (tables .societies) f)
 
 -- FR, spaces: a society code entered and not in the table
 unfoldable pub is36 : Tables → Bytes → Bool
-is36 t r = isPublisher r && (strange t (societyPR r) || strange t (societyMR r) || strange t (societySR r))
+is36 tables r = isPublisher r && (strange tables (societyPR r) || strange tables (societyMR r) || strange tables (societySR r))
 
 abbrev pub default36 : Bytes
 default36 = spaces 3

@@ -19,19 +19,20 @@ isPublisher r = isType "SPU" r || isType "OPU" r
 abbrev pub isWriter : Bytes → Bool
 isWriter r = isType "SWR" r || isType "OWR" r
 
--- ---- lists of records
+-- ---- lists, of records and others
 
 -- those that pass, in order
-abbrev pub only : (Bytes → Bool) → List Bytes → List Bytes
+abbrev pub only : {A : Type 0} → (A → Bool) → List A → List A
 only p [] = []
-only p (r ∷ rs) = cond (p r) (r ∷ only p rs) (only p rs)
+only p (x ∷ xs) = cond (p x) (x ∷ only p xs) (only p xs)
 
--- some record passes
-abbrev pub any : (Bytes → Bool) → List Bytes → Bool
+-- some element passes
+abbrev pub any : {A : Type 0} → (A → Bool) → List A → Bool
 any p [] = false
-any p (r ∷ rs) = p r || any p rs
+any p (x ∷ xs) = p x || any p xs
 
-abbrev pub lastOf : List Bytes → Option Bytes
-lastOf [] = none
-lastOf (r ∷ []) = some r
-lastOf (r ∷ s ∷ rs) = lastOf (s ∷ rs)
+-- the last record, if there is one
+abbrev pub latest : List Bytes → Option Bytes
+latest [] = none
+latest (r ∷ []) = some r
+latest (r ∷ s ∷ rs) = latest (s ∷ rs)

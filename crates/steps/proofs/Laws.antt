@@ -14,9 +14,9 @@ use Rattle.format.specs.Checks.{code, cls}
 use Rattle.format.specs.Fields.{areDigits, numberOf}
 use Rattle.rules.specs.Tables.{Tables}
 use Rattle.rules.specs.Records.{isType, isPublisher, isWriter}
-use Rattle.rules.specs.Publisher.{sequenceNumber, sharePR, shareMR, shareSR}
+use Rattle.rules.specs.Publisher.{sequenceNumber, inChain, sharePR, shareMR, shareSR}
 use Rattle.rules.specs.Other.{is24}
-use Rattle.rules.specs.Chains.{inChain, allShares}
+use Rattle.rules.specs.Chains.{allShares}
 use Rattle.rules.proofs.Fields.{field-short, share-most}
 use Rattle.rules.proofs.Types.{type-is, of-two}
 use Rattle.kinds.specs.Rows.{rowFor, sortOf}

@@ -17,20 +17,20 @@ ghost use mathlib.Core.Bool.{false};
 ghost use mathlib.Core.List.{List, [], _∷_, _++_};
 ghost use Prim.Native.Nat.{_+_, _-_, _^_, _<_, _≤_};
 ghost use lib.ListN.{length};
-ghost use Rattle.format.specs.Bytes.{Bytes, All};
+ghost use Rattle.format.specs.Bytes.{Bytes};
 ghost use Rattle.format.specs.Fields.{fieldOf};
 ghost use Rattle.rules.specs.Tables.{Tables};
 ghost use Rattle.rules.specs.Records.{any};
 ghost use Rattle.rules.specs.Values.{shareOf};
-ghost use Rattle.rules.specs.Publisher.{earlierE};
+ghost use Rattle.rules.specs.Publisher.{eSPU, earlierE};
 ghost use Rattle.lookup.specs.Index.{Indexed};
-ghost use Rattle.chains.specs.Tallies.{ownE, TallyOf, chainsOf, Tallied, Small, Whole};
+ghost use Rattle.chains.specs.Tallies.{TallyOf, chainsOf, Tallied, Small};
 ghost use Rattle.totals.specs.Sums.{AtMost, Below};
 ghost use Rattle.edits.specs.Kinds.{Publisher as IsPublisher, Writer};
 ghost use Rattle.tally.specs.Known.{Known};
 ghost use Rattle.steps.specs.Stepped.{Stands, Reads, Stepped};
 
-// A detail's own findings, and the tally behind it.
+// A detail's own findings, and the tally after it.
 pub struct Step {
     pub found: Found,
     pub tally: Tally,
@@ -83,7 +83,7 @@ impl Publisher {
 
     // Whether an E SPU of its chain stands before it; a record without two digits is in no chain.
     pub fn is_known(self, own: &[bool; 100]) -> bool
-        ensures { λ b. ⌜ ((ds : List Bytes) (r : Bytes) → TallyOf (now (own .entry)) false (any ownE) ds → All Whole ds → Whole r → Reads self r → b ≡ earlierE ds r) ⌝ }
+        ensures { λ b. ⌜ ((ds : List Bytes) (r : Bytes) → TallyOf (now (own .entry)) false (any eSPU) ds → Reads self r → b ≡ earlierE ds r) ⌝ }
     {
         if self.sequence < 100 {
             chains::knows_e(self.sequence as usize, own)

@@ -7,11 +7,10 @@ use Rattle.format.specs.Bytes.{Bytes}
 use Rattle.format.specs.Table.{detail}
 use Rattle.format.specs.Cwr22.{cwr22}
 use Rattle.format.specs.Checks.{cls}
-use Rattle.rules.specs.Order.{reached}
 use Rattle.kinds.specs.Rows.{rowFor}
 use Rattle.kinds.specs.declared.Row.{Row}
 use Rattle.totals.specs.Sums.{Sums, Below}
-use Rattle.order.specs.Standing.{standing}
+use Rattle.order.specs.Walk.{reached, standing}
 use Rattle.marks.specs.Marked.{Marked}
 use Rattle.edits.specs.Before.{lastSequence}
 use Rattle.tally.specs.declared.Tally.{Tally}

@@ -5,7 +5,7 @@ use mathlib.Core.Path.{_≡_, refl, sym, ap, _∙_, subst}
 use mathlib.Core.Bool.{true, false}
 use mathlib.Core.List.{List, [], _∷_, _++_, append-assoc, append-nil}
 use lib.ListN.{length, take, drop}
-use Rattle.format.specs.Bytes.{Bytes, All}
+use Rattle.format.specs.Bytes.{Bytes}
 use Rattle.format.specs.Table.{head, detail}
 use Rattle.format.specs.Cwr22.{cwr22}
 use Rattle.format.specs.Checks.{is, cls, code, classAt}
@@ -21,8 +21,8 @@ use Rattle.kinds.specs.Rows.{rowFor}
 use Rattle.kinds.proofs.Laws.{place-class}
 use Rattle.structure.specs.Cursor.{Here, First}
 use Rattle.structure.proofs.Cursor.{first as record-here, three-left}
-use Rattle.chains.specs.Tallies.{Chains, Tallied, Small, Whole}
-use Rattle.chains.proofs.Laws.{small, whole-of}
+use Rattle.chains.specs.Tallies.{Chains, Tallied, Small}
+use Rattle.chains.proofs.Laws.{small}
 use Rattle.totals.specs.Sums.{Below}
 use Rattle.edits.proofs.Before.{last-most}
 use Rattle.tally.specs.Known.{Known}
@@ -35,7 +35,7 @@ use Rattle.buffers.proofs.Splice.{splice-nil}
 use Rattle.buffers.proofs.Entries.{kept-v, kept-f}
 use Rattle.works.specs.declared.Walk.{Walk}
 use Rattle.works.specs.Walk.{restAt, tailOf, Room, Gone, Done}
-use Rattle.works.proofs.Laws.{detail-here, some-record}
+use Rattle.works.proofs.Laws.{some-record}
 
 pub record Going (f s : Bytes) (start first : ℕ) (v₀ g₀ : Bytes) (c : Chains) (w : Walk) (v g : Bytes) (ds : List Bytes) : Type 0 where
   pub gone : (t : Tables) → t .societies ≡ s → Gone t f first ds (restAt f (w .at)) w v₀ g₀ v g
@@ -156,9 +156,6 @@ module _ (turn : Turn) where
   pub small-chains : Small (c .es) (c .sums)
   small-chains = small c ds (going .tallied) fewer
 
-  pub wholes : All Whole ds
-  wholes = there .whole
-
   pub gone : (t : Tables) → t .societies ≡ s → Gone t f first ds (r ∷ rs) w v₀ g₀ v g
   gone t e = subst (λ (l : List Bytes). Gone t f first ds l w v₀ g₀ v g) left (going .gone t e)
 
@@ -176,9 +173,6 @@ module _ (turn : Turn) where
 
     pub stands : kind .place ≡ 3 → Stands kind r
     stands p = ((at-first .own, is-detail p), at-first .long)
-
-    pub whole : kind .place ≡ 3 → Whole r
-    whole p = whole-of r (detail-here r (is-detail p) kind (at-first .own) (at-first .long))
 
     pub detail-is : kind .place ≡ 3 → cls cwr22 r ≡ detail
     detail-is p = is-detail p
@@ -239,7 +233,6 @@ begins f s start first v g c y h m k n = (
       room = m;
       index = omega arith;
       known = n;
-      whole = tt;
       rejects = refl;
       written = record {
         verdicts = sym (splice-nil first v);

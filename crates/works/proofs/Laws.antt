@@ -1,29 +1,23 @@
 -- One detail more. Assumes nothing.
-use Prim.Native.Nat.{ℕ, suc, _+_, _≤_}
+use Prim.Native.Nat.{ℕ, suc, _+_}
 use native.Mathlib.Omega.{arith}
 use mathlib.Core.Path.{_≡_, refl, sym, ap, _∙_, subst}
-use mathlib.Core.Bool.{Bool, true, false, _||_}
+use mathlib.Core.Bool.{Bool, false, _||_}
 use mathlib.Core.List.{List, [], _∷_, _++_, map, append-assoc, append-nil, map-append}
-use lib.Dec.{T, eqb, leb}
-use lib.ListN.{length, length-append, take, drop}
-use borrow.Author.Tests.{leb-true}
-use Rattle.format.specs.Bytes.{Bytes, every}
-use Rattle.format.specs.Table.{Class, head, detail, trl, Row as FormatRow, row, lenOf}
-use Rattle.format.specs.Cwr22.{rows22, cwr22}
+use lib.Dec.{T, eqb}
+use lib.ListN.{length, length-append, drop}
+use Rattle.format.specs.Bytes.{Bytes}
+use Rattle.format.specs.Table.{Class, head, detail, trl}
+use Rattle.format.specs.Cwr22.{cwr22}
 use Rattle.format.specs.Checks.{is, cls, check7, AlongFrom}
 use Rattle.format.specs.Structure.{firstOf}
-use Rattle.format.proofs.Logic.{All-append}
 use Rattle.rules.specs.Tables.{Tables}
 use Rattle.rules.specs.Findings.{ownFindings, worstFrom, worst}
 use Rattle.rules.specs.Works.{detailsFrom}
 use Rattle.rules.specs.Verdicts.{rejects}
-use Rattle.kinds.specs.Rows.{rowFor}
 use Rattle.kinds.specs.declared.Row.{Row}
-use Rattle.kinds.proofs.Laws.{inClass, of-class, length-len}
 use Rattle.structure.specs.Cursor.{Here, First}
 use Rattle.structure.proofs.Cursor.{placed-like}
-use Rattle.chains.specs.Tallies.{Whole}
-use Rattle.chains.proofs.Laws.{whole-of}
 use Rattle.tally.specs.Known.{Known}
 use Rattle.tally.specs.declared.Tally.{Tally}
 use Rattle.edits.specs.Judged.{Judged}
@@ -57,25 +51,9 @@ pub own-rejects : (t : Tables) (b : List Bytes) (r : Bytes) → rejects (ownFind
 unfolding ownFindings
 own-rejects t b r = late-rejects (drop 1 (ownFindings t b r))
 
--- ---- every detail is long enough for a sequence number
-
-lengthy : FormatRow → Bool
-lengthy (row t n c) = leb 21 n
-
-all-lengthy : every (inClass detail lengthy) rows22 ≡ true
-unfolding rows22 lengthy
-all-lengthy = refl
-
-detail-long : (r : Bytes) → cls cwr22 r ≡ detail → 21 ≤ cwr22 .len (take 3 r)
-unfolding rows22 lengthy
-detail-long r d = of-class detail lengthy all-lengthy refl (λ (f : FormatRow). 21 ≤ lenOf f) r d (λ n e. leb-true 21 n e)
-
-pub detail-here : (r : Bytes) → cls cwr22 r ≡ detail → (kind : Row) → kind ≡ rowFor (take 3 r) → length r ≡ kind .length → 21 ≤ length r
-detail-here r d kind its long = omega (arith, detail-long r d, long, ap (λ (k : Row). k .length) its, length-len r)
-
 -- ---- one detail more
 
--- behind a record that is no TRL another stands
+-- after a record that is no TRL another stands
 pub some-record : (c : Class) → is trl c ≡ false → (rs : List Bytes) → AlongFrom (check7 cwr22) c rs → rs ≡ firstOf rs ∷ tailOf rs
 some-record c e [] a = absurd (subst T e a)
 some-record c e (r ∷ rs) a = refl
@@ -100,7 +78,6 @@ module _ (t : Tables) (f : Bytes) (first : ℕ) (ds : List Bytes) (r : Bytes) (r
         };
         index = omega (arith, before .index, length-append ds (r ∷ []));
         known = k;
-        whole = All-append Whole ds (r ∷ []) (before .whole) (whole-of r (detail-here r d kind (here .own) (here .long)), tt);
         rejects = rw (last, any-behind rejects sets own, own-rejects t ds r, before .rejects, j .level);
         written = rw (last, map-append worst sets (own ∷ []), ← j .level) both;
       }

@@ -3,7 +3,7 @@ use mathlib.Core.Path.{_≡_}
 use mathlib.Core.List.{List, [], _∷_, map}
 use Prim.Native.Nat.{ℕ, suc, _+_, _*_, _≤_}
 use lib.ListN.{length, drop}
-use Rattle.format.specs.Bytes.{Bytes, All}
+use Rattle.format.specs.Bytes.{Bytes}
 use Rattle.format.specs.Doc.{Transaction}
 use Rattle.format.specs.Table.{head}
 use Rattle.format.specs.Cwr22.{cwr22}
@@ -17,7 +17,6 @@ use Rattle.rules.specs.Findings.{worst}
 use Rattle.rules.specs.Works.{is0, detailsFrom, transactionFindings}
 use Rattle.rules.specs.Verdicts.{anyOf, rejects, transactionVerdicts}
 use Rattle.structure.specs.Cursor.{Here}
-use Rattle.chains.specs.Tallies.{Whole}
 use Rattle.tally.specs.Known.{Known}
 use Rattle.heads.specs.Headed.{Linked}
 use Rattle.buffers.specs.Written.{Written}
@@ -42,7 +41,6 @@ pub record Gone (t : Tables) (f : Bytes) (first : ℕ) (ds rs : List Bytes) (w :
   pub room : Room (w .index) (length rs) (length v) (length g)
   pub index : w .index ≡ first + length ds
   pub known : Known (w .tally) ds
-  pub whole : All Whole ds
   pub rejects : w .rejects ≡ anyOf rejects (detailsFrom t [] ds)
   pub written : Written first (map worst (detailsFrom t [] ds)) (detailsFrom t [] ds) v₀ g₀ v g
 

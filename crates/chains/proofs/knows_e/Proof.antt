@@ -8,7 +8,7 @@ element-copy-out-result : tie.Need-element-copy-out-result
 element-copy-out-result c = search needs
 
 returns : tie.Need-returns
-returns c ds r t w hr inside = knows (c .before .args .k) r hr inside (c .before .args .own .now) ds (c .before .pre) t w
+returns c ds r t inside = knows (c .before .args .k) r inside (c .before .args .own .now) ds (c .before .pre) t
 
 pub knows-e-spec : {M : Type 1} → statement M
 knows-e-spec = tie.close (tie.spec element-copy-out-result returns)

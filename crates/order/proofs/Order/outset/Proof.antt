@@ -1,6 +1,6 @@
 -- `order::Order::outset` meets its contract. Assumes nothing.
 use mathlib.Core.Path.{refl}
-use Rattle.rules.specs.Order.{reached}
+use Rattle.order.specs.Walk.{reached}
 use Rattle.order.proofs.Order.outset.Statement.{statement}
 use Rattle.order.proofs.Order.outset.Tie as tie
 

@@ -1,7 +1,6 @@
 -- `steps::Publisher::is_known` meets its contract. Assumes nothing.
 use mathlib.Core.Path.{sym}
 use borrow.Author.Needs.{needs}
-use Rattle.rules.specs.Publisher.{earlierE}
 use Rattle.chains.proofs.Laws.{knows-none}
 use Rattle.steps.proofs.Laws.{chained, unchained}
 use Rattle.steps.proofs.Publisher.is_known.Statement.{statement}
@@ -11,12 +10,10 @@ knows-e-requires : tie.Need-knows-e-requires
 knows-e-requires c κs = search needs
 
 returns : tie.Need-returns
-unfolding earlierE
-returns c ds r t w v p = c .knows-e .ensures ds r t w v (chained (c .before .before .before .args .self) r p (c .before .if1 .taken))
+returns c ds r t p = c .knows-e .ensures ds r t (chained (c .before .before .before .args .self) r p (c .before .if1 .taken))
 
 returns-2 : tie.Need-returns-2
-unfolding earlierE
-returns-2 c ds r t w v p = sym (knows-none r ds (unchained (c .before .before .args .self) r p (c .if1 .left)))
+returns-2 c ds r t p = sym (knows-none r ds (unchained (c .before .before .args .self) r p (c .if1 .left)))
 
 pub is-known-spec : {M : Type 1} → statement M
 is-known-spec = tie.close (tie.spec knows-e-requires returns returns-2)
