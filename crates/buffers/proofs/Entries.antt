@@ -38,7 +38,7 @@ entry i x n s v f ys e k h g y q =
 
 -- ---- many
 
--- where the findings of the records behind these begin
+-- where the findings of the records after these begin
 next-findings : (i : ℕ) (fs : List (List Bool)) → 8 * i + length (findingBytes fs) ≡ 8 * (i + length fs)
 next-findings i fs = omega (arith, length-findings fs)
 
@@ -66,7 +66,7 @@ module _ {i : ℕ} {vs : List ℕ} {fs : List (List Bool)} {v f v' f' : Bytes} (
       → Owed tv tf (i + length fs) us gs v' f'
   paid us gs o = record { verdicts = on-v us ∙ o .verdicts; findings = on-f gs ∙ o .findings }
 
-  -- more is written behind it
+  -- more is written after it
   pub then : {us : List ℕ} {gs : List (List Bool)} {v'' f'' : Bytes} → Written (i + length fs) us gs v' f' v'' f''
       → Written i (vs ++ us) (fs ++ gs) v f v'' f''
   then {us = us} {gs = gs} n = record {

@@ -24,7 +24,7 @@ module _ {A : Type 0} where
   unfolding splice
   part-splice a k ys l e = rw (e, drop-drop k a l)
 
--- what was spliced stands there, and before and behind it all is as it was
+-- what was spliced stands there, and before and after it all is as it was
 module _ {A : Type 0} (a : ℕ) (xs l : List A) (h : a + length xs ≤ length l) where
   length-front : length (take a l) ≡ a
   length-front = length-take-le a l (omega arith)
@@ -64,7 +64,7 @@ module _ {A : Type 0} (a : ℕ) (xs l : List A) (h : a + length xs ≤ length l)
       let q : a + length xs + 0 ≡ a + length xs = omega arith in
       rw q at (beyond 0)
 
-  -- more behind it
+  -- more after it
   pub splice-on : (ys : List A) → splice (a + length xs) ys (splice a xs l) ≡ splice a (xs ++ ys) l
   unfolding splice
   splice-on ys =

@@ -1,4 +1,4 @@
--- What is written into the two lent buffers, and what is left.
+-- Internal: what is written into the two lent buffers, and what is left.
 use mathlib.Core.Path.{_≡_}
 use mathlib.Core.Bool.{Bool}
 use mathlib.Core.List.{List}

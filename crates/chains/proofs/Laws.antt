@@ -60,7 +60,7 @@ joinedBy c k spu e aq shares =
       sums = set (c .sums) k (getD (c .sums) k 0 + cond (spu && (e || aq)) shares 0);
       many = c .many || (e && ltb 0 (getD (c .es) k 0));
       joined = c .joined || (not spu && eqb (getD (c .begun) k 0) 1);
-      behind = c .behind || (getD (c .paid) k false && spu && aq);
+      kept = c .kept || (getD (c .paid) k false && spu && aq);
     }
 
 module _ (c : Chains) (k : ℕ) (h : k < 100) (ds : List Bytes) (r : Bytes) (t : Tallied c ds) (inside : inChain k r ≡ true) where
@@ -75,11 +75,11 @@ module _ (c : Chains) (k : ℕ) (h : k < 100) (ds : List Bytes) (r : Bytes) (t :
   unfolding is13
   joined-then = flag-more joinedByOPU k ds r _ inside (rw (t .begun .at k h) (joined-more before r (publisher-in k r inside))) (c .joined) h (t .joined)
 
-  behind-then : (c .behind || (getD (c .paid) k false && isType "SPU" r && isAQ r)) ≡ is14 (ds ++ r ∷ [])
+  kept-then : (c .kept || (getD (c .paid) k false && isType "SPU" r && isAQ r)) ≡ is14 (ds ++ r ∷ [])
   unfolding is14
-  behind-then =
+  kept-then =
       flag-more aqAfterPaidE k ds r _ inside
-      (rw (t .paid .at k h, and-assoc (any paidE before) (isType "SPU" r) (isAQ r)) (paid-more before r)) (c .behind) h (t .behind)
+      (rw (t .paid .at k h, and-assoc (any paidE before) (isType "SPU" r) (isAQ r)) (paid-more before r)) (c .kept) h (t .kept)
 
   paid-then : (getD (c .paid) k false || (isE r && ltb 0 (allShares r))) ≡ any paidE (before ++ r ∷ [])
   paid-then =
@@ -99,7 +99,7 @@ module _ (c : Chains) (k : ℕ) (h : k < 100) (ds : List Bytes) (r : Bytes) (t :
             (rw (t .sums .at k h) (sym (sum-only-last countsSPU allShares before r)));
         many = many-then;
         joined = joined-then;
-        behind = behind-then;
+        kept = kept-then;
       }
 
 -- the same, with the record's properties as the walk knows them
@@ -124,7 +124,7 @@ module _ (c : Chains) (ds : List Bytes) (r : Bytes) (t : Tallied c ds) where
         sums = tally-left (c .sums) 0 ownShares ds r out (t .sums);
         many = flag-left manyE (c .many) out (t .many);
         joined = flag-left joinedByOPU (c .joined) out (t .joined);
-        behind = flag-left aqAfterPaidE (c .behind) out (t .behind);
+        kept = flag-left aqAfterPaidE (c .kept) out (t .kept);
       }
 
   -- it is no publisher
@@ -141,7 +141,7 @@ tally-none : {A : Type 0} (x : A) (f : List Bytes → A) → f [] ≡ x → Tall
 unfolding chain
 tally-none {A} x f e = record { long = length-replicate 100 x; at = λ k h. getD-replicate {A = A} 100 k x x h ∙ sym e }
 
-pub begins : Tallied (record { begun = replicate 100 0; es = replicate 100 0; own = replicate 100 false; paid = replicate 100 false; sums = replicate 100 0; many = false; joined = false; behind = false }) []
+pub begins : Tallied (record { begun = replicate 100 0; es = replicate 100 0; own = replicate 100 false; paid = replicate 100 false; sums = replicate 100 0; many = false; joined = false; kept = false }) []
 unfolding chain is11 is13 is14
 begins =
     record {
@@ -152,7 +152,7 @@ begins =
       sums = tally-none 0 ownShares refl;
       many = refl;
       joined = refl;
-      behind = refl;
+      kept = refl;
     }
 
 -- ---- the tallies of a file's records are small

@@ -34,12 +34,12 @@ pub record Chains : Type 0 where
   pub sums : List ℕ
   pub many : Bool
   pub joined : Bool
-  pub behind : Bool
+  pub kept : Bool
 
 -- as the code holds them
 abbrev pub chainsOf : List ℕ → List ℕ → List Bool → List Bool → List ℕ → Met → Chains
 chainsOf begun es own paid sums met =
-    record { begun = begun; es = es; own = own; paid = paid; sums = sums; many = met .many; joined = met .joined; behind = met .behind }
+    record { begun = begun; es = es; own = own; paid = paid; sums = sums; many = met .many; joined = met .joined; kept = met .kept }
 
 -- the tallies and flags are those of the details ds
 pub record Tallied (c : Chains) (ds : List Bytes) : Type 0 where
@@ -50,7 +50,7 @@ pub record Tallied (c : Chains) (ds : List Bytes) : Type 0 where
   pub sums : TallyOf (c .sums) 0 ownShares ds
   pub many : c .many ≡ is11 ds
   pub joined : c .joined ≡ is13 ds
-  pub behind : c .behind ≡ is14 ds
+  pub kept : c .kept ≡ is14 ds
 
 -- the counts and the sums have room for one record more
 pub record Small (es sums : List ℕ) : Type 0 where

@@ -17,7 +17,7 @@ pub struct Met {
     // Finding 13: an OPU is in a chain begun by SPU.
     pub joined: bool,
     // Finding 14: an AQ SPU is in a chain where an earlier E has a share.
-    pub behind: bool,
+    pub kept: bool,
 }
 
 // One publisher record more, in chain k: whether it is an SPU, its type in force, and its three shares together. What the record adds to
@@ -56,7 +56,7 @@ pub fn join(
     Met {
         many: met.many | (e & (0 < count)),
         joined: met.joined | (!spu & (first == 1)),
-        behind: met.behind | (earned & spu & aq),
+        kept: met.kept | (earned & spu & aq),
     }
 }
 

@@ -29,7 +29,7 @@ const CATEGORY: usize = 3;
 
 // ---- refusals
 
-// 11, behind all others.
+// 11, after all others.
 fn in_room(answer: Answer, verdicts: usize, findings: usize) -> Answer
     ensures { λ r. ⌜ answerOf r ≡ inRoom (enough verdicts findings) (answerOf answer) ⌝ }
 {
@@ -109,7 +109,7 @@ fn judge_indexed(
     );
 }
 
-// The tables are indexed once, in slots on the stack; the function that holds these takes no part of them.
+// The tables are indexed once, in slots on the stack. (A part of a local array cannot be lent, so the function that holds it lends it whole.)
 fn judge(
     file: &[u8],
     languages: &[u8],

@@ -45,16 +45,16 @@ nowhere t (u ∷ ts) zero h i = by-cases (sameBytes u t) (λ y. absurd (clash (s
 nowhere t (u ∷ ts) (suc k) h i = by-cases (sameBytes u t) (λ y. absurd (clash (sym (rw y) ∙ h))) (λ z. nowhere t ts k (rw z at h) (omega arith))
 
 module _ (x : Bytes) where
-  behind : (n : ℕ) (ts : List Bytes) → n ≤ placeFrom n x ts
-  behind n [] = omega arith
-  behind n (t ∷ ts) = by-cases (sameBytes t x) (λ y. rw y (omega arith)) (λ z. rw z (omega (arith, behind (suc n) ts)))
+  at-least : (n : ℕ) (ts : List Bytes) → n ≤ placeFrom n x ts
+  at-least n [] = omega arith
+  at-least n (t ∷ ts) = by-cases (sameBytes t x) (λ y. rw y (omega arith)) (λ z. rw z (omega (arith, at-least (suc n) ts)))
 
   place-from : (n : ℕ) (ts : List Bytes) → distinct ts ≡ true → (k : ℕ) → k < length ts → eqb (placeFrom n x ts) (n + k) ≡ sameBytes (getD ts k []) x
   place-from n [] d k h = absurd (omega arith)
   place-from n (t ∷ ts) d zero h =
       by-cases (sameBytes t x)
       (λ y. rw y (eq-eqb n (n + 0) (omega arith)))
-      (λ z. rw z (ne-eqb (placeFrom (suc n) x ts) (n + 0) (λ e. omega (arith, behind (suc n) ts))))
+      (λ z. rw z (ne-eqb (placeFrom (suc n) x ts) (n + 0) (λ e. omega (arith, at-least (suc n) ts))))
   place-from n (t ∷ ts) d (suc k) h =
       let ds = both (not (among t ts)) (distinct ts) d in
       by-cases (sameBytes t x)

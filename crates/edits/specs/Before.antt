@@ -1,4 +1,4 @@
--- What finding 25 asks of the records before a publisher record, as one number.
+-- Internal: what finding 25 asks of the records before a publisher record, as one number.
 use Prim.Native.Nat.{ℕ}
 use mathlib.Core.Bool.{cond}
 use mathlib.Core.Option.{Option, none, some}

@@ -1,4 +1,4 @@
--- The kinds of records that have findings of their own, each with the length that the structural check has seen to.
+-- Internal: the kinds of records that have findings of their own, each with the length that the structural check has seen to.
 use mathlib.Core.Path.{_≡_}
 use mathlib.Core.Bool.{true, _||_}
 use lib.ListN.{length}

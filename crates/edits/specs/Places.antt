@@ -1,4 +1,4 @@
--- Where a code stands in a fixed table: one look says whether it is there, and which it is.
+-- Internal: where a code stands in a fixed table: one look says whether it is there, and which it is.
 use Prim.Native.Nat.{ℕ, suc}
 use mathlib.Core.Bool.{cond}
 use mathlib.Core.List.{List, [], _∷_}

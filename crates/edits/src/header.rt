@@ -24,7 +24,7 @@ fn found16(record: &[u8]) -> bool
 fn found17(record: &[u8], languages: &[u8], slots: &[u16]) -> bool
     requires { ⌜ Header (now «record») ⌝ }
     requires { ⌜ Indexed 2 (now languages) (now slots) ⌝ }
-    ensures { λ r. ⌜ ((t : Tables) → t .languages ≡ now (languages .entry) → r ≡ is17 t (now («record» .entry))) ⌝ }
+    ensures { λ r. ⌜ ((tables : Tables) → tables .languages ≡ now (languages .entry) → r ≡ is17 tables (now («record» .entry))) ⌝ }
 {
     let code = text::field(record, 80, 2);
     if text::blank(code) {
@@ -63,7 +63,7 @@ fn found20(record: &[u8]) -> bool
 fn found21(record: &[u8], categories: &[u8], slots: &[u16]) -> bool
     requires { ⌜ Header (now «record») ⌝ }
     requires { ⌜ Indexed 3 (now categories) (now slots) ⌝ }
-    ensures { λ r. ⌜ ((t : Tables) → t .categories ≡ now (categories .entry) → r ≡ is21 t (now («record» .entry))) ⌝ }
+    ensures { λ r. ⌜ ((tables : Tables) → tables .categories ≡ now (categories .entry) → r ≡ is21 tables (now («record» .entry))) ⌝ }
 {
     let code = text::field(record, 127, 3);
     text::blank(code) | !lookup::has(categories, slots, code)
@@ -131,7 +131,7 @@ pub fn judge(
     requires { ⌜ Header (now «record») ⌝ }
     requires { ⌜ Indexed 2 (now languages) (now «language_slots») ⌝ }
     requires { ⌜ Indexed 3 (now categories) (now «category_slots») ⌝ }
-    ensures { λ r. ⌜ ((t : Tables) → t .languages ≡ now (languages .entry) → t .categories ≡ now (categories .entry) → (before : List Bytes) → Judged t before (now («record» .entry)) r) ⌝ }
+    ensures { λ r. ⌜ ((tables : Tables) → tables .languages ≡ now (languages .entry) → tables .categories ≡ now (categories .entry) → (before : List Bytes) → Judged tables before (now («record» .entry)) r) ⌝ }
 {
     gather(
         found16(record),

@@ -14,7 +14,7 @@ use super::Found;
 // ---- finding 24 holds of these types, whatever they hold
 
 pub fn misplaced() -> Found
-    ensures { λ r. ⌜ ((t : Tables) (before : List Bytes) (detail : Bytes) → is24 detail ≡ true → Judged t before detail r) ⌝ }
+    ensures { λ r. ⌜ ((tables : Tables) (before : List Bytes) (detail : Bytes) → is24 detail ≡ true → Judged tables before detail r) ⌝ }
 {
     Found {
         set: 0x1000000,
@@ -37,7 +37,7 @@ fn nameless(b43: bool) -> Found
 // EWT and VER: title blank.
 pub fn version(record: &[u8]) -> Found
     requires { ⌜ Version (now «record») ⌝ }
-    ensures { λ r. ⌜ ((t : Tables) (before : List Bytes) → Judged t before (now («record» .entry)) r) ⌝ }
+    ensures { λ r. ⌜ ((tables : Tables) (before : List Bytes) → Judged tables before (now («record» .entry)) r) ⌝ }
 {
     nameless(text::blank(text::field(record, 20, 60)))
 }
@@ -45,7 +45,7 @@ pub fn version(record: &[u8]) -> Found
 // PER: last name blank.
 pub fn performer(record: &[u8]) -> Found
     requires { ⌜ Performer (now «record») ⌝ }
-    ensures { λ r. ⌜ ((t : Tables) (before : List Bytes) → Judged t before (now («record» .entry)) r) ⌝ }
+    ensures { λ r. ⌜ ((tables : Tables) (before : List Bytes) → Judged tables before (now («record» .entry)) r) ⌝ }
 {
     nameless(text::blank(text::field(record, 20, 45)))
 }
@@ -96,7 +96,7 @@ fn gather(b44: bool, b45: bool, b46: bool) -> Found
 
 pub fn recording(record: &[u8]) -> Found
     requires { ⌜ Recording (now «record») ⌝ }
-    ensures { λ r. ⌜ ((t : Tables) (before : List Bytes) → Judged t before (now («record» .entry)) r) ⌝ }
+    ensures { λ r. ⌜ ((tables : Tables) (before : List Bytes) → Judged tables before (now («record» .entry)) r) ⌝ }
 {
     let b45 = found45(record);
     let b46 = found46(record);

@@ -229,7 +229,7 @@ fn found35(record: &[u8], place: u8) -> bool
 fn unknown(code: &[u8], societies: &[u8], slots: &[u16]) -> bool
     requires { ⌜ length (now code) ≡ 3 ⌝ }
     requires { ⌜ Indexed 3 (now societies) (now slots) ⌝ }
-    ensures { λ r. ⌜ ((t : Tables) → t .societies ≡ now (societies .entry) → r ≡ strange t (now (code .entry))) ⌝ }
+    ensures { λ r. ⌜ ((tables : Tables) → tables .societies ≡ now (societies .entry) → r ≡ strange tables (now (code .entry))) ⌝ }
 {
     if text::blank(code) {
         return false;
@@ -240,7 +240,7 @@ fn unknown(code: &[u8], societies: &[u8], slots: &[u16]) -> bool
 fn found36(record: &[u8], societies: &[u8], slots: &[u16]) -> bool
     requires { ⌜ Publisher (now «record») ⌝ }
     requires { ⌜ Indexed 3 (now societies) (now slots) ⌝ }
-    ensures { λ r. ⌜ ((t : Tables) → t .societies ≡ now (societies .entry) → r ≡ is36 t (now («record» .entry))) ⌝ }
+    ensures { λ r. ⌜ ((tables : Tables) → tables .societies ≡ now (societies .entry) → r ≡ is36 tables (now («record» .entry))) ⌝ }
 {
     unknown(text::field(record, 113, 3), societies, slots)
         | unknown(text::field(record, 121, 3), societies, slots)
@@ -300,7 +300,7 @@ pub fn judge(record: &[u8], societies: &[u8], slots: &[u16], last: u64, known: b
     requires { ⌜ Publisher (now «record») ⌝ }
     requires { ⌜ Indexed 3 (now societies) (now slots) ⌝ }
     requires { ⌜ last ≤ 101 ⌝ }
-    ensures { λ r. ⌜ ((t : Tables) → t .societies ≡ now (societies .entry) → (before : List Bytes) → last ≡ lastSequence before → known ≡ earlierE before (now («record» .entry)) → Judged t before (now («record» .entry)) r) ⌝ }
+    ensures { λ r. ⌜ ((tables : Tables) → tables .societies ≡ now (societies .entry) → (before : List Bytes) → last ≡ lastSequence before → known ≡ earlierE before (now («record» .entry)) → Judged tables before (now («record» .entry)) r) ⌝ }
 {
     let place = type_place(record);
     let force = in_force(record, place);

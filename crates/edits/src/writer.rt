@@ -104,7 +104,7 @@ fn gather(b38: bool, b39: bool, b40: bool, b41: bool, b42: bool) -> Found
 
 pub fn judge(record: &[u8]) -> Found
     requires { ⌜ Writer (now «record») ⌝ }
-    ensures { λ r. ⌜ ((t : Tables) (before : List Bytes) → Judged t before (now («record» .entry)) r) ⌝ }
+    ensures { λ r. ⌜ ((tables : Tables) (before : List Bytes) → Judged tables before (now («record» .entry)) r) ⌝ }
 {
     let place = designation_in_force(record);
     gather(

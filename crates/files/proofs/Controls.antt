@@ -96,17 +96,17 @@ pub follows : (c : Class) → is trl c ≡ false → (rs : List Bytes) → Along
 follows c e [] a = absurd (subst T e a)
 follows c e (r ∷ rs) a = is-true (mayFollow c (cls cwr22 r)) (a .0)
 
--- a header behind GRH, GRT behind a transaction, TRL behind the last group
-pub head-behind : (c : Class) → mayFollow grh c ≡ true → c ≡ head
-head-behind c q = sym (is→eq head c (is-T (is head c) q))
+-- a header after GRH, GRT after a transaction, TRL after the last group
+pub head-after : (c : Class) → mayFollow grh c ≡ true → c ≡ head
+head-after c q = sym (is→eq head c (is-T (is head c) q))
 
-pub grt-behind : (c : Class) → mayFollow head c ≡ true → is head c ≡ false → is detail c ≡ false → c ≡ grt
-grt-behind c q h d = sym (is→eq grt c (is-T (is grt c) (rw (h, d) at q)))
+pub grt-after : (c : Class) → mayFollow head c ≡ true → is head c ≡ false → is detail c ≡ false → c ≡ grt
+grt-after c q h d = sym (is→eq grt c (is-T (is grt c) (rw (h, d) at q)))
 
-pub trl-behind : (c : Class) → mayFollow grt c ≡ true → is grh c ≡ false → c ≡ trl
-trl-behind c q h = sym (is→eq trl c (is-T (is trl c) (rw h at q)))
+pub trl-after : (c : Class) → mayFollow grt c ≡ true → is grh c ≡ false → c ≡ trl
+trl-after c q h = sym (is→eq trl c (is-T (is trl c) (rw h at q)))
 
--- nothing behind TRL
+-- nothing after TRL
 pub last-record : (rs : List Bytes) → AlongFrom (check7 cwr22) trl rs → rs ≡ []
 last-record [] a = refl
 last-record (r ∷ rs) a = absurd (a .0)

@@ -33,14 +33,14 @@ module _ (f : Bytes) (h : Here f 0 unknown (restAt f 0)) where
   is-hdr : cls cwr22 (firstOf (restAt f 0)) ≡ hdr
   is-hdr = sym (is→eq hdr _ (is-T (is hdr (cls cwr22 (firstOf (restAt f 0)))) (follows unknown refl (restAt f 0) (h .placed))))
 
-  behind : Here f 169 hdr (tailOf (restAt f 0))
-  behind = next header (subst (Here f 0 unknown) left h) is-hdr 169 refl
+  first-group : Here f 169 hdr (tailOf (restAt f 0))
+  first-group = next header (subst (Here f 0 unknown) left h) is-hdr 169 refl
 
   rest-is : restAt f 169 ≡ tailOf (restAt f 0)
-  rest-is = behind .left
+  rest-is = first-group .left
 
   pub groups-here : Here f 169 hdr (restAt f 169)
-  groups-here = rw rest-is behind
+  groups-here = rw rest-is first-group
 
   counted : length (restAt f 0) ≡ suc (length (restAt f 169))
   counted = ap length left ∙ ap (λ l. suc (length l)) (sym rest-is)

@@ -29,8 +29,8 @@ use Rattle.buffers.proofs.Raised.{raised-over}
 use Rattle.works.proofs.Laws.{some-record}
 use Rattle.works.specs.Walk.{restAt, tailOf, Room}
 use Rattle.files.specs.declared.Next.{Next}
-use Rattle.files.specs.Levels.{transactionsOf, groupOf, behindGroup, isStrayAmong, Judged}
-use Rattle.files.proofs.Controls.{opening, closing, trailer, ends, lent, next, letter, follows, trl-behind, as-closed, last-record}
+use Rattle.files.specs.Levels.{transactionsOf, groupOf, afterGroup, isStrayAmong, Judged}
+use Rattle.files.proofs.Controls.{opening, closing, trailer, ends, lent, next, letter, follows, trl-after, as-closed, last-record}
 use Rattle.files.proofs.Levels.{Going, room-left, going-none, going-room, going-on, going-end}
 
 -- ---- one group
@@ -53,27 +53,27 @@ module _ (f : Bytes) (at : ℕ) (h : Here f at grt (restAt f at)) (is-grh : cls 
   pub opening-lent : (e : ℕ) → e ≡ at + 28 → take (e - at) (drop at f) ≡ firstOf (restAt f at)
   opening-lent = lent opening here is-grh
 
-  pub behind-opening : (e : ℕ) → e ≡ at + 28 + 2 → restAt f e ≡ tailOf (restAt f at)
-  behind-opening e q = next opening here is-grh e q .left
+  pub after-opening : (e : ℕ) → e ≡ at + 28 + 2 → restAt f e ≡ tailOf (restAt f at)
+  after-opening e q = next opening here is-grh e q .left
 
   pub inside-here : (e : ℕ) → e ≡ at + 28 + 2 → Here f e grh (restAt f e)
-  inside-here e q = rw (behind-opening e q) (next opening here is-grh e q)
+  inside-here e q = rw (after-opening e q) (next opening here is-grh e q)
 
   pub opening-room : (n v g : ℕ) → Room n (length (restAt f at)) v g → (n < v) × (8 * (n + 1) ≤ g)
   opening-room n v g m = (omega (arith, m .inV, ap length left), omega (arith, m .inF, ap length left))
 
   pub inside-room : (n v g e : ℕ) → e ≡ at + 28 + 2 → Room n (length (restAt f at)) v g → Room (n + 1) (length (restAt f e)) v g
   inside-room n v g e q m =
-      let l : length (restAt f at) ≡ suc (length (restAt f e)) = ap length left ∙ ap (λ k. suc (length k)) (sym (behind-opening e q)) in
+      let l : length (restAt f at) ≡ suc (length (restAt f e)) = ap length left ∙ ap (λ k. suc (length k)) (sym (after-opening e q)) in
       record { few = omega (arith, m .few); inV = omega (arith, m .inV); inF = omega (arith, m .inF) }
 
   -- it is the first of the groups that stand here
   pub first-group : (e : ℕ) → e ≡ at + 28 + 2 → cls cwr22 (firstOf (after (isInside cwr22) (restAt f e))) ≡ grt
-      → groupsIn cwr22 (restAt f at) ≡ groupOf (restAt f at) ∷ groupsIn cwr22 (behindGroup (restAt f at))
+      → groupsIn cwr22 (restAt f at) ≡ groupOf (restAt f at) ∷ groupsIn cwr22 (afterGroup (restAt f at))
   first-group e q cl =
       ap (groupsIn cwr22) left
       ∙ group-first cwr22 (firstOf (restAt f at)) (tailOf (restAt f at)) (rw is-grh refl)
-      ∙ ap (λ l. groupOf (restAt f at) ∷ l) (closing-skipped (after (isInside cwr22) (tailOf (restAt f at))) (rw (behind-opening e q) at cl))
+      ∙ ap (λ l. groupOf (restAt f at) ∷ l) (closing-skipped (after (isInside cwr22) (tailOf (restAt f at))) (rw (after-opening e q) at cl))
 
 -- its GRT: where its transactions end
 module _ {f : Bytes} {m i : ℕ} {vs : List ℕ} {sets : List (List Bool)} {at n : ℕ} {rs : List Bytes} {v₀ g₀ v g : Bytes}
@@ -87,8 +87,8 @@ module _ {f : Bytes} {m i : ℕ} {vs : List ℕ} {sets : List (List Bool)} {at n
   pub closing-ends : at + 37 + 2 ≤ length f
   closing-ends = ends closing there is-grt
 
-  pub behind-closing : Here f (at + 37 + 2) grt (tailOf rs)
-  behind-closing = next closing there is-grt (at + 37 + 2) refl
+  pub after-closing : Here f (at + 37 + 2) grt (tailOf rs)
+  after-closing = next closing there is-grt (at + 37 + 2) refl
 
   pub closing-room : (k : ℕ) → m ≡ i + k → Room i k (length v₀) (length g₀) → (n < length v) × (8 * (n + 1) ≤ length g)
   closing-room k e r =
@@ -114,10 +114,10 @@ module _ (tables : Tables) (t : ℕ) (f named : Bytes) (at index inside : ℕ) (
       → stray ≡ isStrayAmong named (transactionsOf (restAt f inside)) → cls cwr22 (firstOf (after (isInside cwr22) (restAt f inside))) ≡ grt
       → Written p-index (0 ∷ []) ([] ∷ []) v₂ g₂ v₃ g₃
       → least ≡ cond stray 4 0 → ys ≡ raised least (take (p-index + 1 - index) (drop index v₃))
-      → Judged f (index + length (restAt f at)) index (groupVerdicts tables t g) (groupFindings tables t g) (p-at + 37 + 2) (p-index + 1) grt (behindGroup (restAt f at)) v₀ g₀ (putMid index (p-index + 1 - index) v₃ ys) g₃
+      → Judged f (index + length (restAt f at)) index (groupVerdicts tables t g) (groupFindings tables t g) (p-at + 37 + 2) (p-index + 1) grt (afterGroup (restAt f at)) v₀ g₀ (putMid index (p-index + 1 - index) v₃ ys) g₃
   unfolding groupVerdicts groupFindings isStray
   group-done p-at p-index least stray v₀ g₀ v₁ g₁ v₂ g₂ v₃ g₃ ys q nm w₁ j st cl w₃ ls y =
-      let b = behind-opening f at h is-grh inside q in
+      let b = after-opening f at h is-grh inside q in
       let ss : List (List Bool) = joined (transactionFindings tables t named) xs in
       let vs : List ℕ = joined (transactionVerdicts tables t named) xs in
       let j' : Judged f (index + 1 + length (tailOf (restAt f at))) (index + 1) vs ss p-at p-index head (after (isInside cwr22) (tailOf (restAt f at))) v₁ g₁ v₂ g₂ = rw b at j in
@@ -129,7 +129,7 @@ module _ (tables : Tables) (t : ℕ) (f named : Bytes) (at index inside : ℕ) (
       let l : p-index + 1 ≡ index + length (([] ∷ ss) ++ [] ∷ []) = rw (length-append ([] ∷ ss) ([] ∷ [])) (omega (arith, n)) in
       let w₅ = raised-over least (p-index + 1) ys w₄ l y in
       record {
-        here = behind-closing j' cl';
+        here = after-closing j' cl';
         left = closing-left j' cl' ∙ omega (arith, ap length (left f at h is-grh));
         index = rw nm at l;
         written = rw (ls, st', nm) at w₅;
@@ -177,7 +177,7 @@ module _ (tables : Tables) (t : ℕ) (f : Bytes) (start i : ℕ) (v₀ g₀ : By
     group-here e =
         by-cases (isGRH cwr22 (firstOf (restAt f (n .at))))
         (λ q. sym (is→eq grh _ (is-T (isGRH cwr22 (firstOf (restAt f (n .at)))) q)))
-        (λ q. absurd (false≢true (ap (λ b. eqb b 71) (sym (letter trailer stands (trl-behind _ follower q) (omega arith))) ∙ e)))
+        (λ q. absurd (false≢true (ap (λ b. eqb b 71) (sym (letter trailer stands (trl-after _ follower q) (omega arith))) ∙ e)))
 
     no-group : eqb (getD f (n .at) 0) 71 ≡ false → isGRH cwr22 (firstOf (restAt f (n .at))) ≡ false
     no-group e =
@@ -187,8 +187,8 @@ module _ (tables : Tables) (t : ℕ) (f : Bytes) (start i : ℕ) (v₀ g₀ : By
 
     -- one group more
     module _ (o : Next) (v' g' : Bytes)
-        (done : Judged f (n .index + length (restAt f (n .at))) (n .index) (groupVerdicts tables t (groupOf (restAt f (n .at)))) (groupFindings tables t (groupOf (restAt f (n .at)))) (o .at) (o .index) grt (behindGroup (restAt f (n .at))) v g v' g') where
-      pub over-on : groupsIn cwr22 (restAt f (n .at)) ≡ groupOf (restAt f (n .at)) ∷ groupsIn cwr22 (behindGroup (restAt f (n .at))) → Inv o v' g'
+        (done : Judged f (n .index + length (restAt f (n .at))) (n .index) (groupVerdicts tables t (groupOf (restAt f (n .at)))) (groupFindings tables t (groupOf (restAt f (n .at)))) (o .at) (o .index) grt (afterGroup (restAt f (n .at))) v g v' g') where
+      pub over-on : groupsIn cwr22 (restAt f (n .at)) ≡ groupOf (restAt f (n .at)) ∷ groupsIn cwr22 (afterGroup (restAt f (n .at))) → Inv o v' g'
       over-on e = (
         inv .0 ++ groupOf (restAt f (n .at)) ∷ [],
         going-on (groupsIn cwr22) (groupVerdicts tables t) (groupFindings tables t) f start i v₀ g₀ (inv .1) (groupOf (restAt f (n .at))) e done,
@@ -201,7 +201,7 @@ module _ (tables : Tables) (t : ℕ) (f : Bytes) (start i : ℕ) (v₀ g₀ : By
     -- none is left
     module _ (e : eqb (getD f (n .at) 0) 71 ≡ false) where
       is-trl : cls cwr22 (firstOf (restAt f (n .at))) ≡ trl
-      is-trl = trl-behind _ follower (no-group e)
+      is-trl = trl-after _ follower (no-group e)
 
       alone : tailOf (restAt f (n .at)) ≡ []
       alone = last-record (tailOf (restAt f (n .at))) (next trailer stands is-trl (n .at + 24 + 2) refl .placed)

@@ -15,7 +15,7 @@ use Rattle.format.specs.Tree.{span, after, isHead, isDetail, isInside}
 use Rattle.format.proofs.Logic.{is-T}
 use Rattle.format.proofs.Tests.{by-cases}
 use Rattle.format.proofs.Tree.{is→eq}
-use Rattle.format.proofs.Walks.{transaction-first, transactions-none, inside-behind}
+use Rattle.format.proofs.Walks.{transaction-first, transactions-none, inside-after}
 use Rattle.rules.specs.Tables.{Tables}
 use Rattle.rules.specs.Works.{is0, transactionFindings}
 use Rattle.rules.specs.Verdicts.{joined, transactionVerdicts}
@@ -23,10 +23,10 @@ use Rattle.structure.specs.Cursor.{Here}
 use Rattle.buffers.proofs.Entries.{kept-v, kept-f}
 use Rattle.works.specs.declared.Passed.{Passed}
 use Rattle.works.specs.Walk.{restAt, tailOf, frontOf, Room, Transacted}
-use Rattle.rules.proofs.Verdicts.{any-behind}
+use Rattle.rules.proofs.Verdicts.{any-after}
 use Rattle.works.proofs.Laws.{length-details, some-record}
 use Rattle.files.specs.Levels.{transactionsOf, isStrayAmong, Judged}
-use Rattle.files.proofs.Controls.{follows, head-behind, grt-behind, as-head}
+use Rattle.files.proofs.Controls.{follows, head-after, grt-after, as-head}
 use Rattle.files.proofs.Levels.{Going, going-none, going-room, going-on, going-end}
 
 -- ---- lists
@@ -71,7 +71,7 @@ module _ (tables : Tables) (t : ℕ) (named f : Bytes) (start i : ℕ) (v₀ g�
   pub among-none : Here f start grh (restAt f start) → Room i (length (restAt f start)) (length v₀) (length g₀)
       → Inv (record { at = start; index = i; place = 2; stray = false }) v₀ g₀
   among-none h m =
-      let k : cls cwr22 (firstOf (restAt f start)) ≡ head = head-behind _ (follows grh refl (restAt f start) (h .placed)) in (
+      let k : cls cwr22 (firstOf (restAt f start)) ≡ head = head-after _ (follows grh refl (restAt f start) (h .placed)) in (
         [],
         record {
           going = going-none transactionsOf (transactionVerdicts tables t named) (transactionFindings tables t named) f start i v₀ g₀ (as-head h) m;
@@ -114,14 +114,14 @@ module _ (tables : Tables) (t : ℕ) (named f : Bytes) (start i : ℕ) (v₀ g�
 
     -- one transaction more
     module _ (q : Passed) (v' g' : Bytes) (e : p .place ≡ 2) (done : Transacted tables t named f (p .index) (restAt f (p .at)) q v g v' g') where
-      abbrev behind : List Bytes
-      behind = after (isDetail cwr22) (tailOf (restAt f (p .at)))
+      abbrev left-over : List Bytes
+      left-over = after (isDetail cwr22) (tailOf (restAt f (p .at)))
 
-      counted : length rs ≡ suc (length (frontOf (restAt f (p .at)) .details) + length behind)
+      counted : length rs ≡ suc (length (frontOf (restAt f (p .at)) .details) + length left-over)
       unfolding rs
       counted = ap length left ∙ ap suc (sym (length-parted (isDetail cwr22) (tailOf (restAt f (p .at)))))
 
-      one : Judged f (p .index + length (restAt f (p .at))) (p .index) (transactionVerdicts tables t named (frontOf (restAt f (p .at)))) (transactionFindings tables t named (frontOf (restAt f (p .at)))) (q .at) (q .index) head behind v g v' g'
+      one : Judged f (p .index + length (restAt f (p .at))) (p .index) (transactionVerdicts tables t named (frontOf (restAt f (p .at)))) (transactionFindings tables t named (frontOf (restAt f (p .at)))) (q .at) (q .index) head left-over v g v' g'
       unfolding rs transactionFindings
       one = record {
         here = done .here;
@@ -147,13 +147,13 @@ module _ (tables : Tables) (t : ℕ) (named f : Bytes) (start i : ℕ) (v₀ g�
               (frontOf (restAt f (p .at)))
               (ap transactionsOf left ∙ transaction-first cwr22 (firstOf (restAt f (p .at))) (tailOf (restAt f (p .at))) is-head)
               one;
-          rest = among .rest ∙ ap (after (isInside cwr22)) left ∙ rw is-head (inside-behind cwr22 (tailOf (restAt f (p .at)))) ∙ ap (after (isInside cwr22)) (sym (done .here .left));
+          rest = among .rest ∙ ap (after (isInside cwr22)) left ∙ rw is-head (inside-after cwr22 (tailOf (restAt f (p .at)))) ∙ ap (after (isInside cwr22)) (sym (done .here .left));
           place = done .place ∙ ap (λ l. cls cwr22 (firstOf l)) (sym (done .here .left));
           edge = ap (λ l. isDetail cwr22 (firstOf l)) (done .here .left) ∙ edge-of (tailOf (restAt f (p .at)));
           stray =
               ap (λ b. b || q .stray) (among .stray)
               ∙ ap (λ b. isStrayAmong named xs || b) (done .stray)
-              ∙ sym (any-behind (λ (x : Transaction). is0 named (x .header)) xs (frontOf (restAt f (p .at))));
+              ∙ sym (any-after (λ (x : Transaction). is0 named (x .header)) xs (frontOf (restAt f (p .at))));
         },
       )
 
@@ -165,19 +165,19 @@ module _ (tables : Tables) (t : ℕ) (named f : Bytes) (start i : ℕ) (v₀ g�
       outside : isInside cwr22 (firstOf (restAt f (p .at))) ≡ false
       outside = rw (no-head, among .edge) refl
 
-      behind-all : after (isInside cwr22) (restAt f start) ≡ restAt f (p .at)
+      after-all : after (isInside cwr22) (restAt f start) ≡ restAt f (p .at)
       unfolding rs
-      behind-all = among .rest ∙ ap (after (isInside cwr22)) left ∙ rw outside (sym left)
+      after-all = among .rest ∙ ap (after (isInside cwr22)) left ∙ rw outside (sym left)
 
       none-left : transactionsOf (restAt f (p .at)) ≡ []
       unfolding rs
       none-left = ap transactionsOf left ∙ transactions-none cwr22 (firstOf (restAt f (p .at))) (tailOf (restAt f (p .at))) outside
 
       pub among-end : Judged f (i + length (restAt f start)) i (joined (transactionVerdicts tables t named) (transactionsOf (restAt f start))) (joined (transactionFindings tables t named) (transactionsOf (restAt f start))) (p .at) (p .index) head (after (isInside cwr22) (restAt f start)) v₀ g₀ v g
-      among-end = rw behind-all (going-end transactionsOf (transactionVerdicts tables t named) (transactionFindings tables t named) f start i v₀ g₀ (among .going) none-left)
+      among-end = rw after-all (going-end transactionsOf (transactionVerdicts tables t named) (transactionFindings tables t named) f start i v₀ g₀ (among .going) none-left)
 
       pub among-stray : p .stray ≡ isStrayAmong named (transactionsOf (restAt f start))
       among-stray = among .stray ∙ ap (isStrayAmong named) (sym (among .going .split ∙ ap (λ l. xs ++ l) none-left ∙ append-nil xs))
 
       pub closed : cls cwr22 (firstOf (after (isInside cwr22) (restAt f start))) ≡ grt
-      closed = ap (λ l. cls cwr22 (firstOf l)) behind-all ∙ grt-behind _ (follows head refl (restAt f (p .at)) (here .placed)) no-head (among .edge)
+      closed = ap (λ l. cls cwr22 (firstOf l)) after-all ∙ grt-after _ (follows head refl (restAt f (p .at)) (here .placed)) no-head (among .edge)

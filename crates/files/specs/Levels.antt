@@ -1,4 +1,4 @@
--- The levels of a file: a group's transactions, a group, all groups. What is done of one, and what is left.
+-- Internal: the levels of a file: a group's transactions, a group, all groups. What is done of one, and what is left.
 use mathlib.Core.Path.{_≡_}
 use mathlib.Core.Bool.{Bool}
 use mathlib.Core.List.{List}
@@ -24,14 +24,14 @@ transactionsOf rs = transactionsIn cwr22 (span (isInside cwr22) rs)
 abbrev pub isStrayAmong : Bytes → List Transaction → Bool
 isStrayAmong named xs = anyOf (λ (x : Transaction). is0 named (x .header)) xs
 
--- the group that a GRH at the front of the records opens, and the records behind it
+-- the group that a GRH at the front of the records opens, and the records after it
 abbrev pub groupOf : List Bytes → Group
 groupOf rs = record { opening = firstOf rs; transactions = transactionsOf (tailOf rs); closing = firstOf (after (isInside cwr22) (tailOf rs)) }
 
-abbrev pub behindGroup : List Bytes → List Bytes
-behindGroup rs = tailOf (after (isInside cwr22) (tailOf rs))
+abbrev pub afterGroup : List Bytes → List Bytes
+afterGroup rs = tailOf (after (isInside cwr22) (tailOf rs))
 
--- from record i of m on, records have got these verdicts and sets; now the walk stands at a byte of the file, behind a record of class c
+-- from record i of m on, records have got these verdicts and sets; now the walk stands at a byte of the file, after a record of class c
 -- and before record n, where the records rs begin. The buffers were v₀ and g₀ and are now v and g
 pub record Judged (f : Bytes) (m i : ℕ) (vs : List ℕ) (sets : List (List Bool)) (at n : ℕ) (c : Class) (rs : List Bytes) (v₀ g₀ v g : Bytes) : Type 0 where
   pub here : Here f at c rs

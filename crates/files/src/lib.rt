@@ -24,7 +24,7 @@ ghost use Rattle.structure.specs.Cursor.{Here};
 ghost use Rattle.buffers.specs.Written.{Written};
 ghost use Rattle.works.specs.Walk.{restAt, Room};
 ghost use Rattle.rules.specs.Tables.{tablesOf};
-ghost use Rattle.files.specs.Levels.{transactionsOf, groupOf, behindGroup, isStrayAmong, Judged};
+ghost use Rattle.files.specs.Levels.{transactionsOf, groupOf, afterGroup, isStrayAmong, Judged};
 
 // How long the records are that open and close a file and its groups.
 const HDR_LENGTH: usize = 167;
@@ -48,7 +48,7 @@ fn least_verdict(stray: bool) -> u8
     if stray { 4 } else { 0 }
 }
 
-// The transactions of a group, behind its GRH, which names that type.
+// The transactions of a group, after its GRH, which names that type.
 fn judge_transactions(
     file: &[u8],
     start: usize,
@@ -118,8 +118,8 @@ fn judge_group(
 ) -> Next
     requires { ⌜ (length (now file) ≤ mostBytes) × Here (now file) at grt (restAt (now file) at) × (cls cwr22 (firstOf (restAt (now file) at)) ≡ grh) × Room index (length (restAt (now file) at)) (length (now verdicts)) (length (now findings)) ⌝ }
     requires { ⌜ (t ≤ largestTolerance) × Indexed 2 (now languages) (now «language_slots») × Indexed 3 (now societies) (now «society_slots») × Indexed 3 (now categories) (now «category_slots») ⌝ }
-    ensures { λ n. ⌜ Judged (now (file .entry)) (index + length (restAt (now (file .entry)) at)) index (groupVerdicts (tablesOf (now (languages .entry)) (now (societies .entry)) (now (categories .entry))) t (groupOf (restAt (now (file .entry)) at))) (groupFindings (tablesOf (now (languages .entry)) (now (societies .entry)) (now (categories .entry))) t (groupOf (restAt (now (file .entry)) at))) (n .at) (n .index) grt (behindGroup (restAt (now (file .entry)) at)) (now (verdicts .entry)) (now (findings .entry)) (now (verdicts .exit)) (now (findings .exit)) ⌝ }
-    ensures { λ _. ⌜ groupsIn cwr22 (restAt (now (file .entry)) at) ≡ groupOf (restAt (now (file .entry)) at) ∷ groupsIn cwr22 (behindGroup (restAt (now (file .entry)) at)) ⌝ }
+    ensures { λ n. ⌜ Judged (now (file .entry)) (index + length (restAt (now (file .entry)) at)) index (groupVerdicts (tablesOf (now (languages .entry)) (now (societies .entry)) (now (categories .entry))) t (groupOf (restAt (now (file .entry)) at))) (groupFindings (tablesOf (now (languages .entry)) (now (societies .entry)) (now (categories .entry))) t (groupOf (restAt (now (file .entry)) at))) (n .at) (n .index) grt (afterGroup (restAt (now (file .entry)) at)) (now (verdicts .entry)) (now (findings .entry)) (now (verdicts .exit)) (now (findings .exit)) ⌝ }
+    ensures { λ _. ⌜ groupsIn cwr22 (restAt (now (file .entry)) at) ≡ groupOf (restAt (now (file .entry)) at) ∷ groupsIn cwr22 (afterGroup (restAt (now (file .entry)) at)) ⌝ }
 {
     let end = at + GRH_LENGTH;
     let opening = &file[at..end];

@@ -68,30 +68,30 @@ module _ (𝕋 : Table) where
   header-next [] rest h = tt
   header-next (x ∷ xs) rest h = rw (h .0)
 
-  -- behind a header: its details, then the next transactions
-  behind-header : (x : Transaction) (xs : List Transaction) (rest : List Item) → All Own (itemsT (x ∷ xs) ++ rest)
+  -- after a header: its details, then the next transactions
+  after-header : (x : Transaction) (xs : List Transaction) (rest : List Item) → All Own (itemsT (x ∷ xs) ++ rest)
       → All (λ r. cls 𝕋 r ≡ detail) (x .details) × All Own (itemsT xs ++ rest)
-  behind-header x xs rest h =
+  after-header x xs rest h =
       own-details (x .details) (itemsT xs ++ rest) (subst (All Own) (append-assoc (map (item detail) (x .details)) (itemsT xs) rest) (h .1))
 
   own-inside : (ts : List Transaction) (rest : List Item) → All Own (itemsT ts ++ rest)
       → All (λ r. isInside 𝕋 r ≡ true) (recordsInT ts) × All Own rest
   own-inside [] rest h = (tt, h)
   own-inside (x ∷ xs) rest h =
-      let (d, k) = behind-header x xs rest h in
+      let (d, k) = after-header x xs rest h in
       let (i, e) = own-inside xs rest k in
       ((rw (h .0), All-append (λ r. isInside 𝕋 r ≡ true) (x .details) (recordsInT xs) (details-inside (x .details) d) i), e)
 
   transactions-found : (ts : List Transaction) (rest : List Item) → All Own (itemsT ts ++ rest) → transactionsIn 𝕋 (recordsInT ts) ≡ ts
   transactions-found [] rest h = refl
   transactions-found (x ∷ xs) rest h =
-      let (d, k) = behind-header x xs rest h in
+      let (d, k) = after-header x xs rest h in
       rw (h .0, span-all (isDetail 𝕋) (x .details) (recordsInT xs) (details-are (x .details) d) (header-next xs rest k), no-header (x .details) (recordsInT xs) d, transactions-found xs rest k)
 
   no-group : (ts : List Transaction) (rest : List Item) (rs : List Bytes) → All Own (itemsT ts ++ rest) → groupsIn 𝕋 (recordsInT ts ++ rs) ≡ groupsIn 𝕋 rs
   no-group [] rest rs h = refl
   no-group (x ∷ xs) rest rs h =
-      let (d, k) = behind-header x xs rest h in
+      let (d, k) = after-header x xs rest h in
       rw (h .0, append-assoc (x .details) (recordsInT xs) rs) (no-detail (x .details) (recordsInT xs ++ rs) d ∙ no-group xs rest rs k)
     where
       no-detail : (ds qs : List Bytes) → All (λ r. cls 𝕋 r ≡ detail) ds → groupsIn 𝕋 (ds ++ qs) ≡ groupsIn 𝕋 qs

@@ -17,7 +17,7 @@ use Rattle.format.proofs.Passes.{Places, loose-held}
 use Rattle.format.proofs.Tree.{tree-places, by-one, by-two, by-three}
 use Rattle.format.proofs.Demand3.{write-pairs, written-loose}
 
--- behind a record of class p the groups begun are at most a third of the records read, about
+-- after a record of class p the groups begun are at most a third of the records read, about
 abbrev Slack : Class → Counts → Type 0
 Slack unknown n = n .groups ≡ 0
 Slack hdr n = 3 * n .groups + 1 ≤ n .records

@@ -67,7 +67,7 @@ build-items d = rw (back-groups (d .groups) (d .trailer))
 abbrev FullG : List Group → Type 0
 FullG gs = All (λ (g : Group). NotEmpty (g .transactions)) gs
 
--- what stands behind a record of that class
+-- what stands after a record of that class
 abbrev Ok : Class → Tail → List Item → Type 0
 Ok hdr (tail ds ts t gs z) ss = (itemsG gs ++ item trl z ∷ [] ≡ ss) × NotEmpty gs × FullG gs
 Ok grh (tail ds ts t gs z) ss = (itemsT ts ++ item grt t ∷ (itemsG gs ++ item trl z ∷ []) ≡ ss) × NotEmpty ts × FullG gs
@@ -140,15 +140,15 @@ joins grt c s b ss a = by-two (λ e. Ok e b ss → Ok grt (onto e s b) (item e s
 joins trl c s b ss a = absurd a
 joins unknown c s b ss a = λ _. any (onto c s b) (item c s ∷ ss)
 
-behind : (p : Class) (ss : List Item) → Places p ss → Ok p (back ss) ss
-behind hdr [] h = absurd h
-behind grh [] h = absurd h
-behind head [] h = absurd h
-behind detail [] h = absurd h
-behind grt [] h = absurd h
-behind trl [] h = refl
-behind unknown [] h = tt
-behind p (item c s ∷ ss) h = joins p c s (back ss) ss (h .0) (behind c ss (h .1))
+follows-ok : (p : Class) (ss : List Item) → Places p ss → Ok p (back ss) ss
+follows-ok hdr [] h = absurd h
+follows-ok grh [] h = absurd h
+follows-ok head [] h = absurd h
+follows-ok detail [] h = absurd h
+follows-ok grt [] h = absurd h
+follows-ok trl [] h = refl
+follows-ok unknown [] h = tt
+follows-ok p (item c s ∷ ss) h = joins p c s (back ss) ss (h .0) (follows-ok c ss (h .1))
 
 pub record Shaped (ss : List Item) (d : Doc) : Type 0 where
   pub same : items d ≡ ss
@@ -159,7 +159,7 @@ pub places-tree : (ss : List Item) → Places unknown ss → Shaped ss (build ss
 unfolding items
 places-tree [] h = absurd h
 places-tree (item c s ∷ ss) h =
-    by-one (λ e. Places e ss → Shaped (item e s ∷ ss) (under s (back ss))) hdr c (h .0) (λ k. go (back ss) (behind hdr ss k)) (h .1)
+    by-one (λ e. Places e ss → Shaped (item e s ∷ ss) (under s (back ss))) hdr c (h .0) (λ k. go (back ss) (follows-ok hdr ss k)) (h .1)
   where
     go : (b : Tail) → Ok hdr b ss → Shaped (item hdr s ∷ ss) (under s b)
     go (tail ds ts t gs z) k = record { same = rw (k .0); some-groups = k .1; some-transactions = k .2 }
@@ -174,7 +174,7 @@ places-details : (ds : List Bytes) (ss : List Item) → Places head ss → Place
 places-details [] ss h = h
 places-details (d ∷ ds) ss h = (tt, as-head (map (item detail) ds ++ ss) (places-details ds ss h))
 
--- behind any record that a header may follow
+-- after any record that a header may follow
 module _ (p : Class) (a : T (mayFollow p head)) where
   places-header : (x : Transaction) (xs : List Transaction) (ss : List Item) → Places head (itemsT xs ++ ss) → Places p (itemsT (x ∷ xs) ++ ss)
   places-header x xs ss h = (a, rw (append-assoc (map (item detail) (x .details)) (itemsT xs) ss) (places-details (x .details) (itemsT xs ++ ss) h))
@@ -187,7 +187,7 @@ places-opened : (ts : List Transaction) (ss : List Item) → NotEmpty ts → Pla
 places-opened [] ss n h = absurd n
 places-opened (x ∷ xs) ss n h = places-header grh tt x xs ss (places-transactions xs ss h)
 
--- behind any record that a GRH may follow
+-- after any record that a GRH may follow
 module _ (p : Class) (a : T (mayFollow p grh)) where
   places-group : (g : Group) (gs : List Group) (ss : List Item) → NotEmpty (g .transactions) → Places grt (itemsG gs ++ ss) → Places p (itemsG (g ∷ gs) ++ ss)
   places-group g gs ss n h =
@@ -197,10 +197,10 @@ places-groups : (gs : List Group) (z : Bytes) → FullG gs → Places grt (items
 places-groups [] z f = (tt, tt)
 places-groups (g ∷ gs) z f = places-group grt tt g gs (item trl z ∷ []) (f .0) (places-groups gs z (f .1))
 
-behind-hdr : (gs : List Group) (z : Bytes) → NotEmpty gs → FullG gs → Places hdr (itemsG gs ++ item trl z ∷ [])
-behind-hdr [] z n f = absurd n
-behind-hdr (g ∷ gs) z n f = places-group hdr tt g gs (item trl z ∷ []) (f .0) (places-groups gs z (f .1))
+after-hdr : (gs : List Group) (z : Bytes) → NotEmpty gs → FullG gs → Places hdr (itemsG gs ++ item trl z ∷ [])
+after-hdr [] z n f = absurd n
+after-hdr (g ∷ gs) z n f = places-group hdr tt g gs (item trl z ∷ []) (f .0) (places-groups gs z (f .1))
 
 pub tree-places : (d : Doc) → NotEmpty (d .groups) → All (λ (g : Group). NotEmpty (g .transactions)) (d .groups) → Places unknown (items d)
 unfolding items
-tree-places d n f = (tt, behind-hdr (d .groups) (d .trailer) n f)
+tree-places d n f = (tt, after-hdr (d .groups) (d .trailer) n f)

@@ -1,5 +1,5 @@
 -- The tree of a file's records as a walk meets it: a transaction is its header and the details up to the first record that is none, a group
--- ends with the first record that is neither header nor detail, and what is left behind either is the tree of what is left. Assumes nothing.
+-- ends with the first record that is neither header nor detail, and what is left after either is the tree of what is left. Assumes nothing.
 use mathlib.Core.Path.{_≡_, refl, ap, _∙_}
 use mathlib.Core.Bool.{Bool, true, false}
 use mathlib.Core.List.{List, [], _∷_, _++_}
@@ -59,9 +59,9 @@ module _ (𝕋 : Table) where
   pub transactions-none : (r : Bytes) (rs : List Bytes) → isInside 𝕋 r ≡ false → transactionsIn 𝕋 (span (isInside 𝕋) (r ∷ rs)) ≡ []
   transactions-none r rs e = rw e
 
-  -- the end of a group is found behind the details of any of its transactions
-  pub inside-behind : (rs : List Bytes) → after (isInside 𝕋) rs ≡ after (isInside 𝕋) (after (isDetail 𝕋) rs)
-  inside-behind rs = after-on (isDetail 𝕋) (isInside 𝕋) detail-inside rs
+  -- the end of a group is found after the details of any of its transactions
+  pub inside-after : (rs : List Bytes) → after (isInside 𝕋) rs ≡ after (isInside 𝕋) (after (isDetail 𝕋) rs)
+  inside-after rs = after-on (isDetail 𝕋) (isInside 𝕋) detail-inside rs
 
   -- ---- groups
 

@@ -1,4 +1,4 @@
--- What is known of a transaction's chains, and what is promised of its header.
+-- Internal: what is known of a transaction's chains, and what is promised of its header.
 use mathlib.Core.Path.{_≡_}
 use mathlib.Core.Bool.{Bool}
 use mathlib.Core.List.{List}
@@ -18,7 +18,7 @@ pub record Linked (l : Links) (ds : List Bytes) : Type 0 where
   pub many : l .many ≡ is11 ds
   pub shareless : l .shareless ≡ is12 ds
   pub joined : l .joined ≡ is13 ds
-  pub behind : l .behind ≡ is14 ds
+  pub kept : l .kept ≡ is14 ds
 
 -- h has the set of these findings and the largest verdict, and says whether one rejects the transaction; and it says whether 0 holds
 pub record Gathered (findings : List Bool) (zeroth : Bool) (h : Head) : Type 0 where

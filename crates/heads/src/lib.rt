@@ -25,7 +25,7 @@ pub struct Links {
     pub many: bool,
     pub shareless: bool,
     pub joined: bool,
-    pub behind: bool,
+    pub kept: bool,
 }
 
 // The header's set of findings and its largest verdict; whether it has a finding that rejects the transaction; whether it has finding 0.
@@ -184,7 +184,7 @@ pub fn judge(header: &[u8], named: &[u8], own: Found, y: Tally, links: Links, t:
         links.many,
         links.shareless,
         links.joined,
-        links.behind,
+        links.kept,
         found15(marks),
         own,
     )

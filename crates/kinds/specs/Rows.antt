@@ -1,4 +1,4 @@
--- The code's table of record types, made of the format's rows and stages, so that no type is written down a second time.
+-- Internal: the code's table of record types, made of the format's rows and stages, so that no type is written down a second time.
 use Prim.Native.Nat.{ℕ, suc}
 use mathlib.Core.Bool.{false, cond}
 use mathlib.Core.List.{List, [], _∷_, map}

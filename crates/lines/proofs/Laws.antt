@@ -57,7 +57,7 @@ text-front (b ∷ t) = go (isText b) (λ h. h) (text-front t)
     go true h q = (h tt, q)
     go false h q = tt
 
--- the byte behind it, if there is one, is not text
+-- the byte after it, if there is one, is not text
 pub text-stops : (t : Bytes) (b : ℕ) (f : Bytes) → drop (textLength t) t ≡ b ∷ f → isText b ≡ false
 text-stops [] b f e = cc
 text-stops (a ∷ t) b f e = go (isText a) refl (text-stops t b f) e
@@ -99,9 +99,9 @@ pair-split (b ∷ []) e = absurd (false≢true (and-eq-true-iff (eqb b 13) false
 pair-split (b ∷ c ∷ t) e =
     let h = and-eq-true-iff (eqb b 13) (eqb c 10) .0 e in rw (eqb-true b 13 (h .0), eqb-true c 10 (h .1))
 
--- a pair behind l bytes
-pub pair-behind : (l : ℕ) (t : Bytes) → beginsPair (drop l t) ≡ true → t ≡ take l t ++ 13 ∷ 10 ∷ drop (l + 2) t
-pair-behind l t e = sym (take-append-drop l t) ∙ ap (λ x. take l t ++ x) (pair-split (drop l t) e ∙ rw drop-drop)
+-- a pair after l bytes
+pub pair-after : (l : ℕ) (t : Bytes) → beginsPair (drop l t) ≡ true → t ≡ take l t ++ 13 ∷ 10 ∷ drop (l + 2) t
+pair-after l t e = sym (take-append-drop l t) ∙ ap (λ x. take l t ++ x) (pair-split (drop l t) e ∙ rw drop-drop)
 
 module _ (f : Bytes) (i : ℕ) where
   pub pair-fits : beginsPair (drop i f) ≡ true → i + 2 ≤ length f
@@ -125,14 +125,14 @@ module _ (f : Bytes) (i : ℕ) where
 -- a line in front: text of l bytes and a CR LF pair
 pub line-first : (l : ℕ) (t : Bytes) → Text (take l t) → beginsPair (drop l t) ≡ true
     → lines t ≡ onto (take l t ∷ []) (lines (drop (l + 2) t))
-line-first l t h e = ap lines (pair-behind l t e) ∙ lines-cons (take l t) (drop (l + 2) t) h
+line-first l t h e = ap lines (pair-after l t e) ∙ lines-cons (take l t) (drop (l + 2) t) h
 
 -- text up to the end
 text-left : (t : Bytes) → 0 < length t → Text t → lines t ≡ bad 0
 text-left [] h q = absurd (omega arith)
 text-left (b ∷ t) h q = lines-left b t q
 
--- no CR LF pair behind the text
+-- no CR LF pair after the text
 pub line-fault : (t : Bytes) → 0 < length t → beginsPair (drop (textLength t) t) ≡ false → lines t ≡ bad 0
 line-fault t h e = go (drop (textLength t) t) refl
   where
@@ -162,16 +162,16 @@ module _ (f : Bytes) (i n : ℕ) (answer : Scan) (inv : Decides f i n answer) wh
 
   -- where the text from i on ends at j
   module _ (j : ℕ) (e : j ≡ i + textLength (drop i f)) where
-    behind : drop (textLength (drop i f)) (drop i f) ≡ drop j f
-    behind = rw (e, drop-drop)
+    rest-is : drop (textLength (drop i f)) (drop i f) ≡ drop j f
+    rest-is = rw (e, drop-drop)
 
     pub scan-on : beginsPair (drop j f) ≡ true → Decides f (j + 2) (n + 1) answer
     scan-on h =
         let rest : i + (textLength (drop i f) + 2) ≡ j + 2 = omega arith in
-        let first = line-first (textLength (drop i f)) (drop i f) (text-front (drop i f)) (rw behind h) in
+        let first = line-first (textLength (drop i f)) (drop i f) (text-front (drop i f)) (rw rest-is h) in
         (pair-fits f j h, omega arith, rw (← inv .2, first, scanned-onto, drop-drop, rest))
 
     pub scan-fault : i < length f → beginsPair (drop j f) ≡ false → scan.Fault n ≡ answer
     scan-fault h q =
-        let fault = line-fault (drop i f) (omega (arith, length-drop i f)) (rw behind q) in
+        let fault = line-fault (drop i f) (omega (arith, length-drop i f)) (rw rest-is q) in
         rw (← inv .2, fault) (ap scan.Fault (omega arith))

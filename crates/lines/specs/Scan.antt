@@ -1,4 +1,4 @@
--- What a scan over the lines of a file finds.
+-- Internal: what a scan over the lines of a file finds.
 use Prim.Native.Nat.{ℕ, suc, _+_}
 use mathlib.Core.Bool.{cond}
 use mathlib.Core.List.{[], _∷_}

@@ -17,7 +17,7 @@ use Rattle.rules.specs.Listing.{recordLine}
 use Rattle.text.specs.Words.{wordOf}
 use Rattle.lines.specs.Scan.{textLength}
 use Rattle.structure.specs.Rest.{isGood}
-use Rattle.structure.proofs.Here.{recordAt, fits, here-three, records-here, fine-behind, all-behind}
+use Rattle.structure.proofs.Here.{recordAt, fits, here-three, records-here, fine-after, all-after}
 use Rattle.lister.specs.Put.{Put}
 use Rattle.lister.specs.Read.{Listable, firstSet, lineAt, linesFrom}
 use Rattle.lister.proofs.Words.{nothing-put, then}
@@ -126,8 +126,8 @@ module _ (f v g : Bytes) (start : ℕ) (old new : Bytes) (i n p : ℕ) (G : Goin
       rw e
       record {
         within = next-within;
-        fine = fine-behind f i here (G .fine);
-        all = all-behind f i here (G .fine) (G .all);
+        fine = fine-after f i here (G .fine);
+        all = all-after f i here (G .fine) (G .all);
         inV = omega (arith, one-more, G .inV);
         inG = omega (arith, one-more, G .inG);
         done = G .done ++ lineAt f i n v g;

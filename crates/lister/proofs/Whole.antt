@@ -16,7 +16,7 @@ use Rattle.rules.specs.Tables.{Tables}
 use Rattle.rules.specs.Values.{largestTolerance}
 use Rattle.rules.specs.Verdicts.{findingBytes, fileFindings, fileVerdicts}
 use Rattle.rules.specs.Outcome.{Outcome, answer, content, check}
-use Rattle.rules.specs.Listing.{answerLine, recordLines, listedBehind, listed, mostInput, listingTables, listing}
+use Rattle.rules.specs.Listing.{answerLine, recordLines, listedAfter, listed, mostInput, listingTables, listing}
 use Rattle.rules.proofs.Each.{records-counted}
 use Rattle.rules.proofs.Outcomes.{passed-order, checks}
 use Rattle.answers.specs.Numbers.{isPassed}
@@ -32,17 +32,17 @@ use Rattle.lister.proofs.Small.{small-file}
 
 module _ {a r : ℕ} {x old new : Bytes} (b : Answer) (text : Bytes) where
   pub passed-put : isPassed b ≡ true → {s : ℕ} {last : Bytes} → Put a x old new r
-      → Put r text new last s → Put a (x ++ listedBehind b text) old last s
+      → Put r text new last s → Put a (x ++ listedAfter b text) old last s
   passed-put e {s} {last} p q = go b e
     where
-      go : (b : Answer) → isPassed b ≡ true → Put a (x ++ listedBehind b text) old last s
+      go : (b : Answer) → isPassed b ≡ true → Put a (x ++ listedAfter b text) old last s
       go (refused n i) e = absurd (false≢true e)
       go (passed g m n) e = then p q
 
-  pub refused-put : isPassed b ≡ false → Put a x old new r → Put a (x ++ listedBehind b text) old new r
+  pub refused-put : isPassed b ≡ false → Put a x old new r → Put a (x ++ listedAfter b text) old new r
   refused-put e p = go b e
     where
-      go : (b : Answer) → isPassed b ≡ false → Put a (x ++ listedBehind b text) old new r
+      go : (b : Answer) → isPassed b ≡ false → Put a (x ++ listedAfter b text) old new r
       go (refused n i) e = rw (append-nil x) p
       go (passed g m n) e = absurd (false≢true (sym e))
 
@@ -90,12 +90,12 @@ module _ (tables : Tables) (t : ℕ) (f v₀ g₀ : Bytes) (a : Answer) (v g : B
       (each-v ∙ all) (each-g ∙ all) (small-file tables t (content f)))
 
   pub is-listed : length v₀ ≡ mostRecords → length g₀ ≡ 8 * mostRecords
-      → answerLine a ++ listedBehind a (linesFrom v g 0 (recordsIn (lines f))) ≡ listed tables t f
+      → answerLine a ++ listedAfter a (linesFrom v g 0 (recordsIn (lines f))) ≡ listed tables t f
   unfolding listed
   is-listed in-v in-g = go a refl ∙ rw (← in-v, ← in-g, ← told)
     where
       go : (b : Answer) → a ≡ b
-          → answerLine b ++ listedBehind b (linesFrom v g 0 (recordsIn (lines f))) ≡ answerLine b ++ listedBehind b text
+          → answerLine b ++ listedAfter b (linesFrom v g 0 (recordsIn (lines f))) ≡ answerLine b ++ listedAfter b text
       go (refused n i) q = refl
       go (passed k m n) q = ap (λ (x : Bytes). answerLine (passed k m n) ++ x) (same-lines k m n q)
 

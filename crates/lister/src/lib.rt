@@ -12,7 +12,7 @@ ghost use Rattle.format.specs.Structure.{refused, passed};
 ghost use Rattle.format.specs.Numbering.{recordsIn};
 ghost use Rattle.rules.specs.Findings.{places};
 ghost use Rattle.rules.specs.Values.{largestTolerance};
-ghost use Rattle.rules.specs.Listing.{withoutZeros, figure, lowestWord, recordLine, answerLine, listedBehind, listed, listingTables};
+ghost use Rattle.rules.specs.Listing.{withoutZeros, figure, lowestWord, recordLine, answerLine, listedAfter, listed, listingTables};
 ghost use Rattle.answers.specs.Numbers.{answerOf, isPassed};
 ghost use Rattle.lister.specs.Promises.{Listed};
 ghost use Rattle.lister.specs.Put.{Put};
@@ -51,7 +51,7 @@ fn zeros(digits: &[u8]) -> usize
     i
 }
 
-// The digits after those zeros. (The function that holds the ten of a number takes no part of them.)
+// The digits after those zeros. (A part of a local array cannot be lent, so the function that holds the ten digits lends them whole.)
 fn put_digits(digits: &[u8], end: u8, out: &mut [u8], at: usize) -> usize
     requires { ⌜ at + length (now digits) < length (now out) ⌝ }
     ensures { λ r. ⌜ Put at (withoutZeros (now (digits .entry)) ++ end ∷ []) (now (out .entry)) (now (out .exit)) r ⌝ }
@@ -203,7 +203,7 @@ fn put_outcome(
     out: &mut [u8],
 ) -> usize
     requires { ⌜ (isPassed (answerOf answer) ≡ true → Listable (now file) (now verdicts) (now findings)) × (64 + 10 * length (now file) ≤ length (now out)) ⌝ }
-    ensures { λ r. ⌜ Put 0 (answerLine (answerOf answer) ++ listedBehind (answerOf answer) (linesFrom (now (verdicts .entry)) (now (findings .entry)) 0 (recordsIn (lines (now (file .entry)))))) (now (out .entry)) (now (out .exit)) r ⌝ }
+    ensures { λ r. ⌜ Put 0 (answerLine (answerOf answer) ++ listedAfter (answerOf answer) (linesFrom (now (verdicts .entry)) (now (findings .entry)) 0 (recordsIn (lines (now (file .entry)))))) (now (out .entry)) (now (out .exit)) r ⌝ }
 {
     let first = put_answer(answer, out);
     if answer.passes() {

@@ -23,7 +23,7 @@ fn print(text: &[u8], n: usize)
     io::write_all(STDOUT_FILENO, &text[..n]);
 }
 
-// Prints the listing of the first n bytes. (The function that holds the buffers takes no part of them.)
+// Prints the listing of the first n bytes. (A part of a local array cannot be lent, so the function that holds it lends it whole.)
 fn print_listing(input: &[u8], n: usize, out: &mut [u8; LISTING])
     requires { ⌜ Counts n (now input) ⌝ }
 {

@@ -1,4 +1,4 @@
--- The index of a lent table: where a code may stand in it.
+-- Internal: the index of a lent table: where a code may stand in it.
 use Prim.Native.Nat.{ℕ, suc, _+_, _-_, _*_, _%_}
 use mathlib.Core.Path.{_≡_}
 use mathlib.Core.List.{List, [], _∷_}

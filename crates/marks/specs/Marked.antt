@@ -1,4 +1,4 @@
--- What the marks say of a transaction's details.
+-- Internal: what the marks say of a transaction's details.
 use mathlib.Core.Path.{_≡_}
 use mathlib.Core.Bool.{Bool, _||_}
 use mathlib.Core.List.{List}

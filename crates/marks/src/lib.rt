@@ -42,7 +42,7 @@ impl Marks {
         }
     }
 
-    // Behind one writer record more, whose designation is or is not among the creators, the changers and the authors.
+    // After one writer record more, whose designation is or is not among the creators, the changers and the authors.
     pub fn with_writer(mut self, creator: bool, changer: bool, author: bool) -> Marks
         ensures { λ m. ⌜ ((ds : List Bytes) (r : Bytes) → Marked self ds → isWriter r ≡ true → among (designationInForce r) creators ≡ creator → among (designationInForce r) changers ≡ changer → among (designationInForce r) authors ≡ author → Marked m (ds ++ r ∷ [])) ⌝ }
     {
@@ -53,7 +53,7 @@ impl Marks {
         self
     }
 
-    // Behind one INS or IND more.
+    // After one INS or IND more.
     pub fn with_instrument(mut self) -> Marks
         ensures { λ m. ⌜ ((ds : List Bytes) (r : Bytes) → Marked self ds → (isType "INS" r || isType "IND" r) ≡ true → Marked m (ds ++ r ∷ [])) ⌝ }
     {
@@ -61,7 +61,7 @@ impl Marks {
         self
     }
 
-    // Behind one EWT more.
+    // After one EWT more.
     pub fn with_ewt(mut self) -> Marks
         ensures { λ m. ⌜ ((ds : List Bytes) (r : Bytes) → Marked self ds → isType "EWT" r ≡ true → Marked m (ds ++ r ∷ [])) ⌝ }
     {
@@ -70,7 +70,7 @@ impl Marks {
         self
     }
 
-    // Behind one VER more.
+    // After one VER more.
     pub fn with_ver(mut self) -> Marks
         ensures { λ m. ⌜ ((ds : List Bytes) (r : Bytes) → Marked self ds → isType "VER" r ≡ true → Marked m (ds ++ r ∷ [])) ⌝ }
     {

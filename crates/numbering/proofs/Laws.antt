@@ -25,7 +25,7 @@ use Rattle.structure.specs.Walk.{Bounded, Next}
 use Rattle.structure.specs.declared.Stand.{Stand}
 use Rattle.structure.proofs.Rows.{row-six}
 use Rattle.structure.proofs.Turns.{bounded-start, bounded-on}
-use Rattle.structure.proofs.Here.{recordAt, fits, here-three, long, records-here, fine-behind, all-behind, line-here, row-size, row-numbers, row-is}
+use Rattle.structure.proofs.Here.{recordAt, fits, here-three, long, records-here, fine-after, all-after, line-here, row-size, row-numbers, row-is}
 use Rattle.numbering.specs.Fill.{Sized}
 
 -- ---- a line that was copied whole
@@ -71,7 +71,7 @@ owed-turn front ys n r rs all w e =
     let p = put (start (cls cwr22 r)) (expected n (cls cwr22 r)) (cut (cls cwr22 r) r) in
     append-assoc front ys u ∙ ap (λ (x : Bytes). front ++ (x ++ u)) w ∙ ap (λ (x : Bytes). front ++ x) (append-assoc p (13 ∷ 10 ∷ []) u) ∙ e
 
--- ---- what the walk keeps: the buffer's front and the numbered rest are the numbered file, and what lies behind is as it was
+-- ---- what the walk keeps: the buffer's front and the numbered rest are the numbered file, and what lies after is as it was
 
 pub record Filling (f old : Bytes) (out : Bytes) (s : Stand) : Type 0 where
   pub bounded : Bounded f s
@@ -127,7 +127,7 @@ module _ (f old out : Bytes) (s : Stand) (F : Filling f old out s) (here : s .at
   class-here : classAt (shape .place) ≡ cls cwr22 (recordAt f (s .at))
   class-here = ap classAt placed ∙ row-is f (s .at) here (F .fine) (F .all) row refl
 
-  -- the bytes written, and behind them the numbered rest
+  -- the bytes written, and after them the numbered rest
   module _ (e : ℕ) (q : e ≡ s .at + shape .length + 2) (ys : Bytes)
       (w : ys ≡ take (at (classAt (shape .place))) (take (e - s .at) (drop (s .at) f)) ++ expected (tally (s .counts)) (classAt (shape .place)) ++ drop (at (classAt (shape .place)) + width (classAt (shape .place))) (take (e - s .at) (drop (s .at) f))) where
     next-here : e ≡ s .at + textLength (drop (s .at) f) + 2
@@ -152,8 +152,8 @@ module _ (f old out : Bytes) (s : Stand) (F : Filling f old out s) (here : s .at
     filling-on g l next x =
         record {
           bounded = bounded-on f s (shape .length) (shape .place) next (F .bounded) (rw placed (row-six (drop (s .at) f) row refl)) ends x;
-          fine = rw (there, next-here) (fine-behind f (s .at) here (F .fine));
-          all = rw (there, next-here) (all-behind f (s .at) here (F .fine) (F .all));
+          fine = rw (there, next-here) (fine-after f (s .at) here (F .fine));
+          all = rw (there, next-here) (all-after f (s .at) here (F .fine) (F .all));
           same = length-written out ys (s .at) e inside fit l ∙ F .same;
           owed = rw (there, x .counts, written out ys (s .at) e inside fit l) owed-on;
           kept = rw there (rest-kept out ys (s .at) e inside fit l old (F .kept));

@@ -8,7 +8,6 @@ use lib.Dec.{leb}
 use borrow.Author.Tests.{le-leb, lt-leb}
 use Rattle.format.specs.Bytes.{Bytes}
 use Rattle.format.specs.Cwr22.{cwr22}
-use Rattle.format.specs.Lines.{good, lines}
 use Rattle.format.specs.Structure.{Answer, refused, passed}
 use Rattle.format.specs.Numbering.{placed, numbering, numberedFile}
 use Rattle.format.specs.Lent.{inRoom, leftIn}

@@ -1,4 +1,4 @@
--- What the writing walk asks of a file: good lines, and records right by 6.
+-- Internal: what the writing walk asks of a file: good lines, and records right by 6.
 use mathlib.Core.Path.{_≡_}
 use mathlib.Core.Bool.{true}
 use lib.ListN.{length}

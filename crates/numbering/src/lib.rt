@@ -45,7 +45,7 @@ fn fill(file: &[u8], out: &mut [u8])
         let shape = kinds::confirmed(rows[k], &file[at..]);
         let end = at + shape.size() + 2;
         number_line(&file[at..end], &mut out[at..end], shape.place, counts);
-        s = structure::behind(s, shape.length, shape.place);
+        s = structure::after_record(s, shape.length, shape.place);
     }
 }
 

@@ -1,4 +1,4 @@
--- The numbers of a record as digits, where they stand, and which a record has to carry.
+-- Internal: the numbers of a record as digits, where they stand, and which a record has to carry.
 use Prim.Native.Nat.{ℕ, _+_, _-_}
 use mathlib.Core.Path.{_≡_}
 use mathlib.Core.List.{[], _++_}

@@ -1,4 +1,4 @@
--- The code's counts as the format has them, and what a walk keeps: bounds, so that no counter wraps, and the digits of counts.
+-- Internal: the code's counts as the format has them, and what a walk keeps: bounds, so that no counter wraps, and the digits of counts.
 use Prim.Native.Nat.{ℕ, pred, _+_, _^_, _<_, _≤_}
 use mathlib.Core.Path.{_≡_}
 use Rattle.format.specs.Bytes.{decimal}

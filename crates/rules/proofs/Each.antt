@@ -39,7 +39,7 @@ leaves-counted d = omega (arith, length-append (recordsInG (d .groups)) (d .trai
 
 -- ---- lists of entries, joined over transactions or groups
 
--- before and behind them stands one entry more
+-- before and after them stands one entry more
 around : {B : Type 0} (x : B) (xs : List B) (y : B) → length (x ∷ xs ++ y ∷ []) ≡ length xs + 2
 around x xs y = omega (arith, length-append xs (y ∷ []))
 

@@ -1,4 +1,4 @@
--- Lists joined one behind the other, and the bytes of sets of findings so joined. Assumes nothing.
+-- Lists joined one after the other, and the bytes of sets of findings so joined. Assumes nothing.
 use mathlib.Core.Path.{_≡_, refl, ap, _∙_}
 use mathlib.Core.Bool.{Bool}
 use mathlib.Core.List.{List, [], _∷_, _++_, append-assoc, append-nil}

@@ -10,6 +10,6 @@ use Rattle.rules.specs.Verdicts.{anyOf}
 pub larger-zero : (x : ℕ) → larger 0 x ≡ x
 larger-zero x = rw (leb·zero x)
 
-pub any-behind : {A : Type 0} (p : A → Bool) (xs : List A) (x : A) → anyOf p (xs ++ x ∷ []) ≡ (anyOf p xs || p x)
-any-behind p [] x = or-false (p x)
-any-behind p (y ∷ xs) x = rw (any-behind p xs x) (sym (or-assoc (p y) (anyOf p xs) (p x)))
+pub any-after : {A : Type 0} (p : A → Bool) (xs : List A) (x : A) → anyOf p (xs ++ x ∷ []) ≡ (anyOf p xs || p x)
+any-after p [] x = or-false (p x)
+any-after p (y ∷ xs) x = rw (any-after p xs x) (sym (or-assoc (p y) (anyOf p xs) (p x)))

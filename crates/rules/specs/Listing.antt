@@ -55,14 +55,14 @@ recordLines n (r ∷ rs) (v ∷ vs) [] = []
 recordLines n (r ∷ rs) (v ∷ vs) (s ∷ ss) = recordLine n r v s ++ recordLines (suc n) rs vs ss
 
 -- after a refusal no record is listed
-abbrev pub listedBehind : Answer → Bytes → Bytes
-listedBehind (refused n i) text = []
-listedBehind (passed g m n) text = text
+abbrev pub listedAfter : Answer → Bytes → Bytes
+listedAfter (refused n i) text = []
+listedAfter (passed g m n) text = text
 
 unfoldable pub listed : Tables → ℕ → Bytes → Bytes
 listed tables t f =
     answerLine (answer tables t f mostRecords (8 * mostRecords))
-    ++ listedBehind (answer tables t f mostRecords (8 * mostRecords))
+    ++ listedAfter (answer tables t f mostRecords (8 * mostRecords))
     (recordLines 0 (recordsIn (lines f)) (fileVerdicts tables t (content f)) (fileFindings tables t (content f)))
 
 -- ---- the program

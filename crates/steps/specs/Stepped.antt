@@ -1,4 +1,4 @@
--- One detail more: what it is, what is read off a publisher record, and what a step promises.
+-- Internal: one detail more: what it is, what is read off a publisher record, and what a step promises.
 use mathlib.Core.Path.{_≡_}
 use mathlib.Core.Bool.{true}
 use mathlib.Core.List.{List, [], _∷_, _++_}
@@ -28,7 +28,7 @@ pub record Reads (p : Publisher) (r : Bytes) : Type 0 where
   pub aq : p .aq ≡ isAQ r
   pub shares : p .shares ≡ rights (λ right. publisherShare right r)
 
--- behind the details ds: the findings of r, and what is known with it
-pub record Stepped (t : Tables) (ds : List Bytes) (r : Bytes) (s : Step) : Type 0 where
-  pub judged : Judged t ds r (s .found)
+-- after the details ds: the findings of r, and what is known with it
+pub record Stepped (tables : Tables) (ds : List Bytes) (r : Bytes) (s : Step) : Type 0 where
+  pub judged : Judged tables ds r (s .found)
   pub known : Known (s .tally) (ds ++ r ∷ [])

@@ -136,7 +136,7 @@ impl Publisher {
         slots: &[u16],
     ) -> Step
         requires { ⌜ Below (2 ^ 60) (y .totals) × AtMost 99999 (self .shares) × (y .last ≤ 101) × IsPublisher (now «record») × Indexed 3 (now societies) (now slots) ⌝ }
-        ensures { λ s. ⌜ ((t : Tables) (ds : List Bytes) → t .societies ≡ now (societies .entry) → Known y ds → Stands row (now («record» .entry)) → Reads self (now («record» .entry)) → known ≡ earlierE ds (now («record» .entry)) → Stepped t ds (now («record» .entry)) s) ⌝ }
+        ensures { λ s. ⌜ ((tables : Tables) (ds : List Bytes) → tables .societies ≡ now (societies .entry) → Known y ds → Stands row (now («record» .entry)) → Reads self (now («record» .entry)) → known ≡ earlierE ds (now («record» .entry)) → Stepped tables ds (now («record» .entry)) s) ⌝ }
     {
         let shares = self.shares;
         let found = edits::publisher::judge(record, societies, slots, y.last, known);
@@ -152,7 +152,7 @@ impl Publisher {
 
 fn writer(record: &[u8], row: Row, y: Tally) -> Step
     requires { ⌜ Below (2 ^ 60) (y .totals) × Writer (now «record») ⌝ }
-    ensures { λ s. ⌜ ((t : Tables) (ds : List Bytes) → Known y ds → Stands row (now («record» .entry)) → Stepped t ds (now («record» .entry)) s) ⌝ }
+    ensures { λ s. ⌜ ((tables : Tables) (ds : List Bytes) → Known y ds → Stands row (now («record» .entry)) → Stepped tables ds (now («record» .entry)) s) ⌝ }
 {
     let found = edits::writer::judge(record);
     let place = edits::writer::designation_in_force(record);
@@ -173,7 +173,7 @@ fn nothing() -> Found
 // A detail that is no publisher record, judged and counted.
 pub fn other(record: &[u8], row: Row, y: Tally) -> Step
     requires { ⌜ Below (2 ^ 60) (y .totals) × Stands row (now «record») × (row .sort ≡ 2 → ⊥) ⌝ }
-    ensures { λ s. ⌜ ((t : Tables) (ds : List Bytes) → Known y ds → Stepped t ds (now («record» .entry)) s) ⌝ }
+    ensures { λ s. ⌜ ((tables : Tables) (ds : List Bytes) → Known y ds → Stepped tables ds (now («record» .entry)) s) ⌝ }
 {
     let sort = row.sort;
     match sort {

@@ -23,7 +23,7 @@ use Rattle.format.proofs.Tests.{by-cases}
 use Rattle.lines.specs.Scan.{textLength}
 use Rattle.structure.specs.Rest.{isGood}
 use Rattle.structure.specs.Cursor.{Here, First}
-use Rattle.structure.proofs.Here.{recordAt, fits, long, records-here, fine-behind, here-three, row-size, row-is}
+use Rattle.structure.proofs.Here.{recordAt, fits, long, records-here, fine-after, here-three, row-size, row-is}
 
 -- ---- the start
 
@@ -37,9 +37,9 @@ here-start f rs e p =
       placed = p .seven;
     }
 
--- ---- behind another class
+-- ---- after another class
 
--- what may stand behind c may stand behind d
+-- what may stand after c may stand after d
 like : (c d : Class) → is trl c ≡ false → ((e : Class) → mayFollow c e ≡ true → mayFollow d e ≡ true)
     → (rs : List Bytes) → AlongFrom (check7 cwr22) c rs → AlongFrom (check7 cwr22) d rs
 like c d e more [] a = absurd (subst T e a)
@@ -109,7 +109,7 @@ module _ {f : Bytes} {i : ℕ} {c : Class} where
         follows = is-true (mayFollow c (cls cwr22 r)) (h .placed .0);
         next = record {
           within = rw size (fits f i here (h .good));
-          good = rw size (fine-behind f i here (h .good));
+          good = rw size (fine-after f i here (h .good));
           left = rw size rest;
           typed = h .typed .1;
           placed = h .placed .1;

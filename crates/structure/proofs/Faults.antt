@@ -1,11 +1,11 @@
--- Faults as code has them, 0 for none and else the place and one, and what they decide behind the last record. Assumes nothing.
+-- Faults as code has them, 0 for none and else the place and one, and what they decide after the last record. Assumes nothing.
 use Prim.Native.Nat.{ℕ, zero, suc, _+_, _-_, _≤_}
 use native.Mathlib.Numerals.{add-one}
 use native.Mathlib.Omega.{arith}
 use mathlib.Core.Path.{_≡_, refl, sym, ap, _∙_}
 use mathlib.Core.Logic.{_≢_}
 use mathlib.Core.Bool.{Bool, true, false, _||_}
-use mathlib.Core.Option.{Option, none, some}
+use mathlib.Core.Option.{Option, some}
 use lib.Dec.{eqb}
 use borrow.Author.Tests.{eq-eqb, ne-eqb}
 use Rattle.format.specs.Table.{trl}
@@ -27,13 +27,13 @@ met-some (suc n) h = ap some (omega arith)
 pub met-kept : (n : ℕ) → n ≢ 0 → (o : Option ℕ) → met n ≡ orElse (met n) o
 met-kept n h o = rw (met-some n h)
 
--- an alternative that comes before another, or behind it
+-- an alternative that comes before another, or after it
 pub or-swap : (a b c : Bool) → (a || (b || c)) ≡ (b || (a || c))
 or-swap true true c = refl
 or-swap true false c = refl
 or-swap false b c = refl
 
--- ---- behind the last record
+-- ---- after the last record
 
 module _ (asked version : Bool) (m : Met) (p : ℕ) (n : Counts) where
   pub end-met : (i : ℕ) → m .seven ≢ 0 → i ≡ m .seven - 1 → refused 7 i ≡ atEnd cwr22 asked version (faultsOf m) (classAt p) n

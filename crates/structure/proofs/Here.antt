@@ -1,4 +1,4 @@
--- A record seen from its place in a file whose lines are good: where it ends, and what stands behind it. Where the records are right by 6
+-- A record seen from its place in a file whose lines are good: where it ends, and what stands after it. Where the records are right by 6
 -- it has three bytes at least, and the row of the three bytes that stand there is its row. Assumes nothing.
 use Prim.Native.Nat.{ℕ, _+_, _≤_, _<_}
 use native.Mathlib.Nat.{add-assoc}
@@ -23,7 +23,7 @@ use Rattle.kinds.specs.Rows.{rowFor}
 use Rattle.kinds.specs.declared.Row.{Row}
 use Rattle.format.proofs.Tests.{by-cases}
 use Rattle.lines.specs.Scan.{textLength}
-use Rattle.lines.proofs.Laws.{text-front, line-first, line-fault, pair-behind, pair-fits}
+use Rattle.lines.proofs.Laws.{text-front, line-first, line-fault, pair-after, pair-fits}
 use Rattle.structure.specs.Rest.{isGood}
 use Rattle.structure.proofs.Rows.{row-class, row-typed, row-room}
 
@@ -45,7 +45,7 @@ module _ (t : Bytes) (some : 0 < length t) (fine : isGood (lines t) ≡ true) wh
 
 -- ---- a record seen from its place
 
--- the record that stands at a place, and those behind it
+-- the record that stands at a place, and those after it
 abbrev pub recordAt : Bytes → ℕ → Bytes
 recordAt f i = take (textLength (drop i f)) (drop i f)
 
@@ -59,29 +59,29 @@ module _ (f : Bytes) (i : ℕ) (here : i < length f) (fine : isGood (lines (drop
   pub long : length (recordAt f i) ≡ textLength (drop i f)
   long = length-take-le (textLength (drop i f)) (drop i f) (rw length-drop (omega (arith, fits)))
 
-  -- what stands behind it, seen from here and from the file's start
-  behind-here : drop (textLength (drop i f) + 2) (drop i f) ≡ drop (i + textLength (drop i f) + 2) f
-  behind-here = rw (drop-drop, add-assoc)
+  -- what stands after it, seen from here and from the file's start
+  after-here : drop (textLength (drop i f) + 2) (drop i f) ≡ drop (i + textLength (drop i f) + 2) f
+  after-here = rw (drop-drop, add-assoc)
 
   pub records-here : recordsIn (lines (drop i f)) ≡ recordAt f i ∷ recordsIn (lines (drop (i + textLength (drop i f) + 2) f))
-  records-here = rw behind-here at (good-first (drop i f) some fine .1)
+  records-here = rw after-here at (good-first (drop i f) some fine .1)
 
-  pub fine-behind : isGood (lines (drop (i + textLength (drop i f) + 2) f)) ≡ true
-  fine-behind = rw behind-here at (good-first (drop i f) some fine .0)
+  pub fine-after : isGood (lines (drop (i + textLength (drop i f) + 2) f)) ≡ true
+  fine-after = rw after-here at (good-first (drop i f) some fine .0)
 
   -- with its CR LF
   pub line-here : take (textLength (drop i f) + 2) (drop i f) ≡ recordAt f i ++ 13 ∷ 10 ∷ []
   line-here =
       let n : length (recordAt f i ++ 13 ∷ 10 ∷ []) ≡ textLength (drop i f) + 2 = length-append (recordAt f i) (13 ∷ 10 ∷ []) ∙ omega (arith, long) in
-      ap (take (textLength (drop i f) + 2)) (pair-behind (textLength (drop i f)) (drop i f) (good-pair (drop i f) some fine) ∙ sym (append-assoc (recordAt f i) (13 ∷ 10 ∷ []) _))
+      ap (take (textLength (drop i f) + 2)) (pair-after (textLength (drop i f)) (drop i f) (good-pair (drop i f) some fine) ∙ sym (append-assoc (recordAt f i) (13 ∷ 10 ∷ []) _))
       ∙ take-at (recordAt f i ++ 13 ∷ 10 ∷ []) _ (textLength (drop i f) + 2) n
 
 -- ---- and where all records are right by 6
 
 module _ (f : Bytes) (i : ℕ) (here : i < length f) (fine : isGood (lines (drop i f)) ≡ true)
     (all : Along (check6 cwr22) (recordsIn (lines (drop i f)))) where
-  pub all-behind : Along (check6 cwr22) (recordsIn (lines (drop (i + textLength (drop i f) + 2) f)))
-  all-behind = subst (Along (check6 cwr22)) (records-here f i here fine) all .1
+  pub all-after : Along (check6 cwr22) (recordsIn (lines (drop (i + textLength (drop i f) + 2) f)))
+  all-after = subst (Along (check6 cwr22)) (records-here f i here fine) all .1
 
   pub here-typed : T (typed cwr22 (recordAt f i))
   here-typed = subst (Along (check6 cwr22)) (records-here f i here fine) all .0

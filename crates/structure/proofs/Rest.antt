@@ -11,7 +11,7 @@ use lib.Dec.{leb}
 use Rattle.format.specs.Bytes.{Bytes, Text}
 use Rattle.format.specs.Table.{Class, unknown, Table}
 use Rattle.format.specs.Lines.{Lines, good, bad, lines}
-use Rattle.format.specs.Checks.{Check, faultFrom, Counts, noneCounted, count, counting, cls, typed, rightlyNumbered, mayFollow, is, closes, check7}
+use Rattle.format.specs.Checks.{Check, faultFrom, Counts, noneCounted, count, counting, cls, typed, rightlyNumbered, mayFollow, closes, check7}
 use Rattle.format.specs.Structure.{Answer, refused, refusal, unless, mostBytes, mostRecords, firstOf, judged, ofFile, ofLines, structure}
 use Rattle.format.specs.Numbering.{placed, numbering, recordsIn}
 use Rattle.format.proofs.Lines.{onto, lines-cons}

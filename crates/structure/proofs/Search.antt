@@ -9,7 +9,7 @@ use lib.Dec.{eqb}
 use borrow.Author.Tests.{eqb-true}
 use Rattle.format.specs.Bytes.{Bytes}
 use Rattle.format.specs.Cwr22.{cwr22}
-use Rattle.format.specs.Lines.{good, lines}
+use Rattle.format.specs.Lines.{lines}
 use Rattle.format.specs.Checks.{classAt, typed}
 use Rattle.format.specs.Structure.{Answer, refused}
 use Rattle.format.specs.Numbering.{recordsIn}
@@ -24,7 +24,7 @@ use Rattle.structure.specs.declared.Met.{Met}
 use Rattle.structure.proofs.Rest.{judged-turn, judged-type, judged-end}
 use Rattle.structure.proofs.Rows.{row-class, row-typed, row-six}
 use Rattle.structure.proofs.Turns.{bounded-on}
-use Rattle.structure.proofs.Here.{recordAt, fits, long, records-here, fine-behind}
+use Rattle.structure.proofs.Here.{recordAt, fits, long, records-here, fine-after}
 
 -- ---- what the scan keeps: the records from here on, with the faults met, decide
 
@@ -49,12 +49,12 @@ module _ (f : Bytes) (asked version : Bool) (s : Stand) (m : Met) (answer : Answ
     cut : r ≡ recordAt f (s .at)
     cut = part ∙ ap (λ k. take k (drop (s .at) f)) size-here
 
-    -- the record, and the records behind it
-    behind : List Bytes
-    behind = recordsIn (lines (drop (s .at + textLength (drop (s .at) f) + 2) f))
+    -- the record, and the records after it
+    others : List Bytes
+    others = recordsIn (lines (drop (s .at + textLength (drop (s .at) f) + 2) f))
 
-    decides : judgedFrom cwr22 asked version (faultsOf m) (classAt (s .place)) (tally (s .counts)) (r ∷ behind) ≡ answer
-    unfolding behind
+    decides : judgedFrom cwr22 asked version (faultsOf m) (classAt (s .place)) (tally (s .counts)) (r ∷ others) ≡ answer
+    unfolding others
     decides = rw cut (rw (records-here f (s .at) here (J .fine)) at (J .rest))
 
     module _ (shaped : Bool) (test : shaped ≡ (not (eqb (row .place) 6) && eqb (length r) (row .length))) where
@@ -63,7 +63,7 @@ module _ (f : Bytes) (asked version : Bool) (s : Stand) (m : Met) (answer : Answ
 
       pub judging-type : shaped ≡ false → refused 6 (s .counts .records) ≡ answer
       judging-type z =
-          sym (judged-type cwr22 asked version (faultsOf m) (classAt (s .place)) (tally (s .counts)) r behind (is-typed ∙ z)) ∙ decides
+          sym (judged-type cwr22 asked version (faultsOf m) (classAt (s .place)) (tally (s .counts)) r others (is-typed ∙ z)) ∙ decides
 
       module _ (z : shaped ≡ true) where
         size : row .length ≡ textLength (drop (s .at) f)
@@ -72,14 +72,14 @@ module _ (f : Bytes) (asked version : Bool) (s : Stand) (m : Met) (answer : Answ
         pub judging-on : (next : Stand) → Next s (row .length) (row .place) next
             → (more : Met) → faultsOf more ≡ moreFaults cwr22 asked (faultsOf m) (classAt (s .place)) (tally (s .counts)) r
             → Judging f asked version next more answer
-        unfolding behind
+        unfolding others
         judging-on next x more k =
             record {
               bounded = bounded-on f s (row .length) (row .place) next (J .bounded) (row-six r row its) (rw size (fits f (s .at) here (J .fine))) x;
-              fine = rw place (fine-behind f (s .at) here (J .fine));
+              fine = rw place (fine-after f (s .at) here (J .fine));
               rest =
                   rw (k, x .place, x .counts, row-class r row its, place)
-                  (sym (judged-turn cwr22 asked version (faultsOf m) (classAt (s .place)) (tally (s .counts)) r behind (is-typed ∙ z)) ∙ decides);
+                  (sym (judged-turn cwr22 asked version (faultsOf m) (classAt (s .place)) (tally (s .counts)) r others (is-typed ∙ z)) ∙ decides);
             }
           where
             place : next .at ≡ s .at + textLength (drop (s .at) f) + 2

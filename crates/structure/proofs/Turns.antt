@@ -19,7 +19,7 @@ use Rattle.kinds.specs.Rows.{kinds, rowFor, typeOf}
 use Rattle.kinds.specs.declared.Row.{Row}
 use Rattle.format.proofs.Tests.{both}
 use Rattle.kinds.proofs.Laws.{first-three, hinted}
-use Rattle.lines.proofs.Laws.{every-text, pair-behind}
+use Rattle.lines.proofs.Laws.{every-text, pair-after}
 use Rattle.numbers.specs.Tally.{tally, Kept}
 use Rattle.numbers.specs.declared.Counts.{Counts as CodeCounts}
 use Rattle.structure.specs.Rest.{orElse, Faults, restFrom, moreFaults}
@@ -52,11 +52,11 @@ module _ (t : Bytes) (row : Row) (its : row ≡ rowFor (take 3 t)) where
     jump q h k x y s m =
         let r = take (row .length) t in
         let c : classAt (row .place) ≡ cls cwr22 r = row-class r row (cut-row h) in
-        ap (restFrom cwr22 asked version p n) (pair-behind (row .length) t y)
+        ap (restFrom cwr22 asked version p n) (pair-after (row .length) t y)
         ∙ rest-turn cwr22 asked version p n r (drop (row .length + 2) t) (every-text r x) (cut-typed q h k) (rw c at s) (rw c at m)
         ∙ rw (← c)
 
--- the stand behind a record is bounded as the one before it was
+-- the stand after a record is bounded as the one before it was
 pub bounded-on : (f : Bytes) (s : Stand) (l p : ℕ) (next : Stand) → Bounded f s → p ≤ 6 → s .at + l + 2 ≤ length f → Next s l p next → Bounded f next
 bounded-on f s l p next b h k x =
     record {

@@ -1,4 +1,5 @@
--- Where a walk stands in a file that is right by 4, 6 and 7. Later walks speak of the records that are left, and of offsets only here.
+-- Internal: where a walk stands in a file that is right by 4, 6 and 7. Later walks speak of the records that are left, and of offsets only
+-- here.
 use mathlib.Core.Path.{_≡_}
 use mathlib.Core.Bool.{true}
 use mathlib.Core.List.{List}
@@ -14,7 +15,7 @@ use Rattle.kinds.specs.declared.Row.{Row}
 use Rattle.kinds.specs.Rows.{rowFor}
 use Rattle.structure.specs.Rest.{isGood}
 
--- at byte i of the file, behind a record of class c, the records rs begin
+-- at byte i of the file, after a record of class c, the records rs begin
 pub record Here (f : Bytes) (i : ℕ) (c : Class) (rs : List Bytes) : Type 0 where
   pub within : i ≤ length f
   pub good : isGood (lines (drop i f)) ≡ true
@@ -22,7 +23,7 @@ pub record Here (f : Bytes) (i : ℕ) (c : Class) (rs : List Bytes) : Type 0 whe
   pub typed : Along (check6 cwr22) rs
   pub placed : AlongFrom (check7 cwr22) c rs
 
--- the record r of that row stands at byte i, behind one of class c; behind its CR LF the records rs begin
+-- the record r of that row stands at byte i, after one of class c; after its CR LF the records rs begin
 pub record First (f : Bytes) (i : ℕ) (c : Class) (row : Row) (r : Bytes) (rs : List Bytes) : Type 0 where
   pub ends : i + row .length + 2 ≤ length f
   pub bytes : take (row .length) (drop i f) ≡ r

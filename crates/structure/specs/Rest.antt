@@ -1,4 +1,4 @@
--- What the rest of a file decides, once a walk has come to a place in it: the answer of the whole file, if all before was right.
+-- Internal: what the rest of a file decides, once a walk has come to a place in it: the answer of the whole file, if all before was right.
 use Prim.Native.Nat.{ℕ, _+_}
 use mathlib.Core.Bool.{Bool, true, false, not, _||_}
 use mathlib.Core.Option.{Option, none, some}
@@ -33,7 +33,7 @@ module _ (𝕋 : Table) (asked : Bool) where
   abbrev pub asked9 : Check
   asked9 = counting 𝕋 (λ n r. not asked || ok9 𝕋 n r)
 
-  -- the faults met with the record r behind
+  -- the faults met with the record r after
   unfoldable pub moreFaults : Faults → Class → Counts → Bytes → Faults
   moreFaults m p n r =
       record {
@@ -47,7 +47,7 @@ module _ (𝕋 : Table) (asked version : Bool) where
   abbrev pub versionFrom : Counts → Answer
   versionFrom n = refusal 10 (unless version 0) (countsOf n)
 
-  -- behind a record of class p, after the records n, with the faults m met
+  -- after a record of class p, after the records n, with the faults m met
   unfoldable pub judgedFrom : Faults → Class → Counts → List Bytes → Answer
   judgedFrom m p n rs =
       refusal 6 (faultFrom (check6 𝕋) tt (n .records) rs)
@@ -63,7 +63,7 @@ module _ (𝕋 : Table) (asked version : Bool) where
   abbrev pub restFrom : Class → Counts → Bytes → Answer
   restFrom p n f = linesFrom p n (lines f)
 
-  -- what is left to say behind the last record
+  -- what is left to say after the last record
   unfoldable pub atEnd : Faults → Class → Counts → Answer
   atEnd m p n =
       refusal 7 (orElse (m .seven) (unless (is trl p) (n .records))) (refusal 8 (m .eight) (refusal 9 (m .nine) (versionFrom n)))

@@ -1,4 +1,4 @@
--- Where a walk over a file stands, what it has met, and what it asks of a record.
+-- Internal: where a walk over a file stands, what it has met, and what it asks of a record.
 use Prim.Native.Nat.{ℕ, zero, suc, _+_, _≤_}
 use mathlib.Core.Path.{_≡_}
 use mathlib.Core.Bool.{Bool, true, not, _||_}
@@ -44,7 +44,7 @@ pub record RightAt (f : Bytes) (asked : Bool) (s : Stand) (r : Row) : Type 0 whe
   pub numbers :
       (not asked || sameBytes (slot (classAt (r .place)) (take (r .length) (drop (s .at) f))) (expected (tally (s .counts)) (classAt (r .place)))) ≡ true
 
--- behind one record more, of that length and place
+-- after one record more, of that length and place
 pub record Next (s : Stand) (l p : ℕ) (r : Stand) : Type 0 where
   pub at : r .at ≡ s .at + l + 2
   pub place : r .place ≡ p

@@ -30,7 +30,7 @@ ghost use Rattle.numbers.specs.Tally.{tally, Kept, CanGrow};
 ghost use Rattle.structure.specs.Rest.{orElse, faultless, judgedFrom, restFrom, moreFaults, atEnd, isGood};
 ghost use Rattle.structure.specs.Walk.{Roomy, Bounded, Stood, RightAt, Next, met, faultsOf};
 
-// Where a walk stands: at a byte of the file, behind a record of that place, with these counts.
+// Where a walk stands: at a byte of the file, after a record of that place, with these counts.
 pub struct Stand {
     pub at: usize,
     pub place: u8,
@@ -74,8 +74,8 @@ fn version(record: &[u8]) -> bool
         & (text::number(revision) <= 2)
 }
 
-// Behind one record more, of that length and place. (Not of a row: where one is handed on, the compiler keeps it in memory.)
-pub fn behind(s: Stand, length: u16, place: u8) -> Stand
+// After one record more, of that length and place. (Not of a row: where one is handed on, the compiler keeps it in memory.)
+pub fn after_record(s: Stand, length: u16, place: u8) -> Stand
     requires { ⌜ (s .at ≤ mostBytes) × (Kept (s .counts)) × (s .counts .records ≤ s .at) ⌝ }
     ensures { λ r. ⌜ Next s length place r ⌝ }
 {
@@ -102,7 +102,8 @@ fn numbered(asked: bool, counts: Counts, place: u8, record: &[u8]) -> bool
 
 // ---- the walk
 
-// Whether the record of that row which stands here is whole, and right in all that is asked. Only a yes says anything.
+// Whether the record of that row which stands here is whole, and right in all that is asked. Where it says no, the
+// record may still be right: the scans look at it again.
 fn right(file: &[u8], asked: bool, s: Stand, row: Row) -> bool
     requires { ⌜ (Bounded (now file) s) × (length (now file) ≤ mostBytes) × (Roomy row) ⌝ }
     ensures { λ r. ⌜ (r ≡ true → RightAt (now (file .entry)) asked s row) ⌝ }
@@ -144,7 +145,7 @@ fn walk(file: &[u8], asked: bool) -> Stand
         if !right(file, asked, s, row) {
             return s;
         }
-        s = behind(s, row.length, row.place);
+        s = after_record(s, row.length, row.place);
     }
 }
 
@@ -185,7 +186,7 @@ fn more(asked: bool, s: Stand, m: Met, record: &[u8], row: Row) -> Met
     }
 }
 
-// What is left to say behind the last record.
+// What is left to say after the last record.
 fn ended(version: bool, s: Stand, m: Met) -> Answer
     requires { ⌜ s .place ≤ 6 ⌝ }
     ensures { λ r. ⌜ ((asked : Bool) → answerOf r ≡ atEnd cwr22 asked version (faultsOf m) (classAt (s .place)) (tally (s .counts))) ⌝ }
@@ -227,7 +228,7 @@ fn judge(file: &[u8], asked: bool, version: bool, start: Stand) -> Answer
             return Answer::Shape(index(counts.records));
         }
         m = more(asked, s, m, record, row);
-        s = behind(s, row.length, row.place);
+        s = after_record(s, row.length, row.place);
     }
     ended(version, s, m)
 }

@@ -1,4 +1,4 @@
--- What a `Tally` says of the details so far.
+-- Internal: what a `Tally` says of the details so far.
 use mathlib.Core.Path.{_≡_}
 use mathlib.Core.List.{List}
 use Prim.Native.Nat.{_*_}

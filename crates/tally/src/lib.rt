@@ -6,10 +6,10 @@ use order::Order;
 use totals::Rights;
 use totals::Totals;
 ghost use mathlib.Core.Path.{_≡_};
-ghost use mathlib.Core.Bool.{true, false, _||_};
+ghost use mathlib.Core.Bool.{true, false};
 ghost use mathlib.Core.List.{List, [], _∷_, _++_};
 ghost use Prim.Native.Nat.{_^_};
-ghost use Rattle.format.specs.Bytes.{Bytes, among};
+ghost use Rattle.format.specs.Bytes.{Bytes};
 ghost use Rattle.rules.specs.Tables.{designations};
 ghost use Rattle.rules.specs.Records.{isType, isPublisher, isWriter};
 ghost use Rattle.rules.specs.Writer.{designationInForce};
@@ -44,7 +44,7 @@ impl Tally {
         }
     }
 
-    // Behind one publisher record more.
+    // After one publisher record more.
     pub fn with_publisher(self, row: Row, sequence: u64, shares: Rights) -> Tally
         requires { ⌜ Below (2 ^ 60) (self .totals) × AtMost 99999 shares ⌝ }
         ensures { λ y. ⌜ ((ds : List Bytes) (r : Bytes) → Known self ds → Detail row r → isPublisher r ≡ true → sequence ≡ sequenceOf r → shares ≡ rights (λ right. publisherShare right r) → Known y (ds ++ r ∷ [])) ⌝ }
@@ -62,7 +62,7 @@ impl Tally {
         }
     }
 
-    // Behind one writer record more, whose designation has that place in the table.
+    // After one writer record more, whose designation has that place in the table.
     pub fn with_writer(self, row: Row, place: u8, shares: Rights) -> Tally
         requires { ⌜ Below (2 ^ 60) (self .totals) × AtMost 99999 shares ⌝ }
         ensures { λ y. ⌜ ((ds : List Bytes) (r : Bytes) → Known self ds → Detail row r → isWriter r ≡ true → place ≡ placeOf (designationInForce r) designations → shares ≡ rights (λ right. writerShare right r) → Known y (ds ++ r ∷ [])) ⌝ }
@@ -85,7 +85,7 @@ impl Tally {
         }
     }
 
-    // Behind one INS or IND more.
+    // After one INS or IND more.
     pub fn with_instrument(self, row: Row) -> Tally
         ensures { λ y. ⌜ ((ds : List Bytes) (r : Bytes) → Known self ds → Detail row r → isInstrument r ≡ true → Known y (ds ++ r ∷ [])) ⌝ }
     {
@@ -94,7 +94,7 @@ impl Tally {
         self.moved(row, marked)
     }
 
-    // Behind one EWT more.
+    // After one EWT more.
     pub fn with_ewt(self, row: Row) -> Tally
         ensures { λ y. ⌜ ((ds : List Bytes) (r : Bytes) → Known self ds → Detail row r → isType "EWT" r ≡ true → Known y (ds ++ r ∷ [])) ⌝ }
     {
@@ -103,7 +103,7 @@ impl Tally {
         self.moved(row, marked)
     }
 
-    // Behind one VER more.
+    // After one VER more.
     pub fn with_ver(self, row: Row) -> Tally
         ensures { λ y. ⌜ ((ds : List Bytes) (r : Bytes) → Known self ds → Detail row r → isType "VER" r ≡ true → Known y (ds ++ r ∷ [])) ⌝ }
     {
@@ -112,7 +112,7 @@ impl Tally {
         self.moved(row, marked)
     }
 
-    // Behind one detail more that is none of these.
+    // After one detail more that is none of these.
     pub fn with_other(self, row: Row) -> Tally
         ensures { λ y. ⌜ ((ds : List Bytes) (r : Bytes) → Known self ds → Detail row r → isPublisher r ≡ false → isWriter r ≡ false → isInstrument r ≡ false → isType "EWT" r ≡ false → isType "VER" r ≡ false → Known y (ds ++ r ∷ [])) ⌝ }
     {
@@ -120,7 +120,7 @@ impl Tally {
         self.moved(row, marks)
     }
 
-    // Behind a detail that is neither publisher nor writer, with these marks.
+    // After a detail that is neither publisher nor writer, with these marks.
     fn moved(self, row: Row, marks: Marks) -> Tally
         ensures { λ y. ⌜ ((ds : List Bytes) (r : Bytes) → Known self ds → Detail row r → isPublisher r ≡ false → isWriter r ≡ false → Marked marks (ds ++ r ∷ []) → Known y (ds ++ r ∷ [])) ⌝ }
     {

@@ -31,7 +31,7 @@ module _ (p : ℕ → Bool) (l : List ℕ) (i : ℕ) (inv : RestDecides p l i) w
   pub every-end : length l ≤ i → true ≡ every p l
   every-end h = rw (drop-of-length-le l h) at (inv .1)
 
--- the i bytes before write n, and behind n the bytes from i on write the whole number
+-- the i bytes before write n, and after n the bytes from i on write the whole number
 abbrev pub Reads : List ℕ → ℕ → ℕ → Type 0
 Reads l n i = (i ≤ length l) × (n < 10 ^ i) × (numberFrom n (drop i l) ≡ numberOf l)
 

@@ -128,7 +128,7 @@ digits-snoc : (w n : ℕ) → wordOf (decimal (suc w) n) ≡ wordOf (decimal w (
 unfolding decimal
 digits-snoc w n = word-snoc (decimal w (n / 10)) (48 + n % 10) ∙ rw (length-decimal w (n / 10))
 
--- digits count less than one more byte behind them would
+-- digits count less than one more byte after them would
 digits-below : (w n : ℕ) → wordOf (decimal w n) < unitOf (suc w)
 unfolding decimal wordOf unitOf
 digits-below zero n = omega arith
@@ -160,7 +160,7 @@ next-plain w n h =
     let more : u * (48 + (n + 1) % 10) ≡ u * (48 + n % 10) + u = ap (λ (d : ℕ). u * d) last ∙ mul-add u (48 + n % 10) 1 ∙ rw (mul-one u) in
     digits-snoc w (n + 1) ∙ rw others (omega (arith, more, digits-snoc w n))
 
--- ---- what the turns that carry keep: the digits that are left, grown by one, and the zeros behind them are the next number's
+-- ---- what the turns that carry keep: the digits that are left, grown by one, and the zeros after them are the next number's
 
 pub record Carrying (n i number rest unit zeros : ℕ) : Type 0 where
   pub few : i ≤ 8

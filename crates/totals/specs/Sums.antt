@@ -1,4 +1,4 @@
--- The code's totals as those of a list of details.
+-- Internal: the code's totals as those of a list of details.
 use mathlib.Core.Path.{_≡_}
 use mathlib.Core.List.{List}
 use Prim.Native.Nat.{ℕ, _+_, _≤_}

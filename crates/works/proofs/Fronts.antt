@@ -41,7 +41,7 @@ use Rattle.works.specs.Walk.{restAt, tailOf, frontOf, Room, Done, Transa
 -- ---- a header is NWR or REV, of 260 bytes
 
 heading : FormatRow → Bool
-heading (row t n c) = eqb n 260 && (sameBytes (ascii "NWR") t || sameBytes (ascii "REV") t)
+heading (row type n c) = eqb n 260 && (sameBytes (ascii "NWR") type || sameBytes (ascii "REV") type)
 
 all-heading : every (inClass head heading) rows22 ≡ true
 unfolding rows22 heading
@@ -104,7 +104,7 @@ module _ (f : Bytes) (i : ℕ) (c : Class) (h : Here f i c (restAt f i)) (is-hea
 
 -- ---- what is known of its details
 
-module _ (t : Tables) (f : Bytes) (n : ℕ) (rs : List Bytes) (d : Details) (v₀ g₀ v g : Bytes) (done : Done t f n rs d v₀ g₀ v g) where
+module _ (tables : Tables) (f : Bytes) (n : ℕ) (rs : List Bytes) (d : Details) (v₀ g₀ v g : Bytes) (done : Done tables f n rs d v₀ g₀ v g) where
   pub done-below : Below (2 ^ 60) (d .walk .tally .totals)
   done-below =
       below-limits (d .walk .tally .totals) (span (isDetail cwr22) rs) (omega (arith, done .gone .room .few, done .gone .index)) (done .gone .known .below)

@@ -38,7 +38,7 @@ use Rattle.works.specs.Walk.{restAt, tailOf, Room, Gone, Done}
 use Rattle.works.proofs.Laws.{some-record}
 
 pub record Going (f s : Bytes) (start first : ℕ) (v₀ g₀ : Bytes) (c : Chains) (w : Walk) (v g : Bytes) (ds : List Bytes) : Type 0 where
-  pub gone : (t : Tables) → t .societies ≡ s → Gone t f first ds (restAt f (w .at)) w v₀ g₀ v g
+  pub gone : (tables : Tables) → tables .societies ≡ s → Gone tables f first ds (restAt f (w .at)) w v₀ g₀ v g
   pub tallied : Tallied c ds
   pub split : span (isDetail cwr22) (restAt f start) ≡ ds ++ span (isDetail cwr22) (restAt f (w .at))
   pub rest : after (isDetail cwr22) (restAt f start) ≡ after (isDetail cwr22) (restAt f (w .at))
@@ -156,8 +156,8 @@ module _ (turn : Turn) where
   pub small-chains : Small (c .es) (c .sums)
   small-chains = small c ds (going .tallied) fewer
 
-  pub gone : (t : Tables) → t .societies ≡ s → Gone t f first ds (r ∷ rs) w v₀ g₀ v g
-  gone t e = subst (λ (l : List Bytes). Gone t f first ds l w v₀ g₀ v g) left (going .gone t e)
+  pub gone : (tables : Tables) → tables .societies ≡ s → Gone tables f first ds (r ∷ rs) w v₀ g₀ v g
+  gone tables e = subst (λ (l : List Bytes). Gone tables f first ds l w v₀ g₀ v g) left (going .gone tables e)
 
   -- ---- the record that stands here
 
@@ -179,7 +179,7 @@ module _ (turn : Turn) where
 
     -- one detail more
     pub going-on : kind .place ≡ 3 → (c' : Chains) (w' : Walk) (v' g' : Bytes) → Tallied c' (ds ++ r ∷ [])
-        → ((t : Tables) → t .societies ≡ s → Gone t f first (ds ++ r ∷ []) rs w' v₀ g₀ v' g') → Inv f s start first v₀ g₀ c' w' v' g'
+        → ((tables : Tables) → tables .societies ≡ s → Gone tables f first (ds ++ r ∷ []) rs w' v₀ g₀ v' g') → Inv f s start first v₀ g₀ c' w' v' g'
     unfolding some
     going-on p c' w' v' g' k n =
         let d : isDetail cwr22 r ≡ true = rw (is-detail p) in
@@ -188,7 +188,7 @@ module _ (turn : Turn) where
         let af : after (isDetail cwr22) (restAt f (w .at)) ≡ after (isDetail cwr22) (restAt f (w' .at)) = ap (after (isDetail cwr22)) left ∙ rw (d, q) in (
           ds ++ r ∷ [],
           record {
-            gone = λ t e. subst (λ (l : List Bytes). Gone t f first (ds ++ r ∷ []) l w' v₀ g₀ v' g') (sym q) (n t e);
+            gone = λ tables e. subst (λ (l : List Bytes). Gone tables f first (ds ++ r ∷ []) l w' v₀ g₀ v' g') (sym q) (n tables e);
             tallied = k;
             split = going .split ∙ ap (λ l. ds ++ l) sp ∙ sym (append-assoc ds (r ∷ []) (span (isDetail cwr22) (restAt f (w' .at))));
             rest = going .rest ∙ af;
@@ -196,7 +196,7 @@ module _ (turn : Turn) where
         )
 
     -- so fewer are left
-    pub fewer-left : (w' : Walk) (v' g' : Bytes) → ((t : Tables) → t .societies ≡ s → Gone t f first (ds ++ r ∷ []) rs w' v₀ g₀ v' g')
+    pub fewer-left : (w' : Walk) (v' g' : Bytes) → ((tables : Tables) → tables .societies ≡ s → Gone tables f first (ds ++ r ∷ []) rs w' v₀ g₀ v' g')
         → length (restAt f (w' .at)) < length (restAt f (w .at))
     unfolding some
     fewer-left w' v' g' n = omega (arith, ap length (n some refl .here .left), ap length left)
@@ -208,14 +208,14 @@ module _ (turn : Turn) where
         (λ e. absurd (n (ap (λ (k : Row). k .place) (at-first .own) ∙ place-class r ∙ ap code (sym (is→eq detail (cls cwr22 r) (is-T (isDetail cwr22 r) e))))))
         (λ e. e)
 
-    pub done : (kind .place ≡ 3 → ⊥) → (l : Links) → Linked l ds → (t : Tables) → t .societies ≡ s
-        → Done t f first (restAt f start) (record { walk = w; links = l; place = kind .place }) v₀ g₀ v g
-    done n l k t e =
+    pub done : (kind .place ≡ 3 → ⊥) → (l : Links) → Linked l ds → (tables : Tables) → tables .societies ≡ s
+        → Done tables f first (restAt f start) (record { walk = w; links = l; place = kind .place }) v₀ g₀ v g
+    done n l k tables e =
         let d = no-detail n in
         let sp : span (isDetail cwr22) (restAt f start) ≡ ds = going .split ∙ ap (λ q. ds ++ span (isDetail cwr22) q) left ∙ rw d (append-nil ds) in
         let af : after (isDetail cwr22) (restAt f start) ≡ r ∷ rs = going .rest ∙ ap (after (isDetail cwr22)) left ∙ rw d in
         record {
-          gone = rw (sp, af) (gone t e);
+          gone = rw (sp, af) (gone tables e);
           linked = rw sp k;
           place = rw af (sym (at-first .class));
         }
@@ -228,7 +228,7 @@ unfolding findingBytes
 begins f s start first v g c y h m k n = (
   [],
   record {
-    gone = λ t e. record {
+    gone = λ tables e. record {
       here = h;
       room = m;
       index = omega arith;

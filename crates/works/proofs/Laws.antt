@@ -22,7 +22,7 @@ use Rattle.tally.specs.Known.{Known}
 use Rattle.tally.specs.declared.Tally.{Tally}
 use Rattle.edits.specs.Judged.{Judged}
 use Rattle.edits.specs.declared.Found.{Found}
-use Rattle.rules.proofs.Verdicts.{larger-zero, any-behind}
+use Rattle.rules.proofs.Verdicts.{larger-zero, any-after}
 use Rattle.heads.proofs.Laws.{later-rejects}
 use Rattle.buffers.specs.Written.{Written}
 use Rattle.buffers.proofs.Entries.{kept-v, kept-f, then}
@@ -31,14 +31,14 @@ use Rattle.works.specs.Walk.{tailOf, Gone}
 
 -- ---- sets of details
 
-module _ (t : Tables) where
-  details-last : (b ds : List Bytes) (r : Bytes) → detailsFrom t b (ds ++ r ∷ []) ≡ detailsFrom t b ds ++ ownFindings t (b ++ ds) r ∷ []
+module _ (tables : Tables) where
+  details-last : (b ds : List Bytes) (r : Bytes) → detailsFrom tables b (ds ++ r ∷ []) ≡ detailsFrom tables b ds ++ ownFindings tables (b ++ ds) r ∷ []
   details-last b [] r = rw (append-nil b)
   details-last b (d ∷ ds) r =
-      ap (λ l. ownFindings t b d ∷ l)
-      (details-last (b ++ d ∷ []) ds r ∙ ap (λ l. detailsFrom t (b ++ d ∷ []) ds ++ ownFindings t l r ∷ []) (append-assoc b (d ∷ []) ds))
+      ap (λ l. ownFindings tables b d ∷ l)
+      (details-last (b ++ d ∷ []) ds r ∙ ap (λ l. detailsFrom tables (b ++ d ∷ []) ds ++ ownFindings tables l r ∷ []) (append-assoc b (d ∷ []) ds))
 
-  pub length-details : (b ds : List Bytes) → length (detailsFrom t b ds) ≡ length ds
+  pub length-details : (b ds : List Bytes) → length (detailsFrom tables b ds) ≡ length ds
   length-details b [] = refl
   length-details b (d ∷ ds) = ap suc (length-details (b ++ d ∷ []) ds)
 
@@ -47,9 +47,9 @@ late-rejects : (bs : List Bool) → rejects (false ∷ bs) ≡ eqb (worst (false
 unfolding rejects worst
 late-rejects bs = later-rejects 0 bs ∙ sym (ap (λ n. eqb n 3) (larger-zero (worstFrom 1 bs)))
 
-pub own-rejects : (t : Tables) (b : List Bytes) (r : Bytes) → rejects (ownFindings t b r) ≡ eqb (worst (ownFindings t b r)) 3
+pub own-rejects : (tables : Tables) (b : List Bytes) (r : Bytes) → rejects (ownFindings tables b r) ≡ eqb (worst (ownFindings tables b r)) 3
 unfolding ownFindings
-own-rejects t b r = late-rejects (drop 1 (ownFindings t b r))
+own-rejects tables b r = late-rejects (drop 1 (ownFindings tables b r))
 
 -- ---- one detail more
 
@@ -58,16 +58,16 @@ pub some-record : (c : Class) → is trl c ≡ false → (rs : List Bytes) → A
 some-record c e [] a = absurd (subst T e a)
 some-record c e (r ∷ rs) a = refl
 
-module _ (t : Tables) (f : Bytes) (first : ℕ) (ds : List Bytes) (r : Bytes) (rs : List Bytes) (w : Walk) (v₀ g₀ v g : Bytes) (before : Gone t f first ds (r ∷ rs) w v₀ g₀ v g)
+module _ (tables : Tables) (f : Bytes) (first : ℕ) (ds : List Bytes) (r : Bytes) (rs : List Bytes) (w : Walk) (v₀ g₀ v g : Bytes) (before : Gone tables f first ds (r ∷ rs) w v₀ g₀ v g)
     (kind : Row) (here : First f (w .at) head kind r rs) (d : cls cwr22 r ≡ detail) where
-  pub gone-on : (found : Found) (y : Tally) (v' g' : Bytes) → Judged t ds r found → Known y (ds ++ r ∷ [])
-      → Written (w .index) (found .level ∷ []) (ownFindings t ds r ∷ []) v g v' g'
-      → Gone t f first (ds ++ r ∷ []) rs (record { at = w .at + kind .length + 2; index = w .index + 1; tally = y; rejects = w .rejects || eqb (found .level) 3 }) v₀ g₀ v' g'
+  pub gone-on : (found : Found) (y : Tally) (v' g' : Bytes) → Judged tables ds r found → Known y (ds ++ r ∷ [])
+      → Written (w .index) (found .level ∷ []) (ownFindings tables ds r ∷ []) v g v' g'
+      → Gone tables f first (ds ++ r ∷ []) rs (record { at = w .at + kind .length + 2; index = w .index + 1; tally = y; rejects = w .rejects || eqb (found .level) 3 }) v₀ g₀ v' g'
   gone-on found y v' g' j k n =
-      let sets = detailsFrom t [] ds in
-      let own = ownFindings t ds r in
-      let last : detailsFrom t [] (ds ++ r ∷ []) ≡ sets ++ own ∷ [] = details-last t [] ds r in
-      let i : w .index ≡ first + length sets = before .index ∙ ap (λ m. first + m) (sym (length-details t [] ds)) in
+      let sets = detailsFrom tables [] ds in
+      let own = ownFindings tables ds r in
+      let last : detailsFrom tables [] (ds ++ r ∷ []) ≡ sets ++ own ∷ [] = details-last tables [] ds r in
+      let i : w .index ≡ first + length sets = before .index ∙ ap (λ m. first + m) (sym (length-details tables [] ds)) in
       let both : Written first (map worst sets ++ found .level ∷ []) (sets ++ own ∷ []) v₀ g₀ v' g' = then (before .written) (subst (λ (m : ℕ). Written m (found .level ∷ []) (own ∷ []) v g v' g') i n) in
       record {
         here = placed-like detail head refl (λ e q. q) (subst (λ (k : Class). Here f (w .at + kind .length + 2) k rs) d (here .next));
@@ -78,6 +78,6 @@ module _ (t : Tables) (f : Bytes) (first : ℕ) (ds : List Bytes) (r : Bytes) (r
         };
         index = omega (arith, before .index, length-append ds (r ∷ []));
         known = k;
-        rejects = rw (last, any-behind rejects sets own, own-rejects t ds r, before .rejects, j .level);
+        rejects = rw (last, any-after rejects sets own, own-rejects tables ds r, before .rejects, j .level);
         written = rw (last, map-append worst sets (own ∷ []), ← j .level) both;
       }

@@ -1,4 +1,4 @@
--- A walk over the details of a transaction: what it has done, and what is left.
+-- Internal: a walk over the details of a transaction: what it has done, and what is left.
 use mathlib.Core.Path.{_≡_}
 use mathlib.Core.List.{List, [], _∷_, map}
 use Prim.Native.Nat.{ℕ, suc, _+_, _*_, _≤_}
@@ -36,17 +36,17 @@ pub record Room (i n v g : ℕ) : Type 0 where
 
 -- the details ds are judged and written, the first of them being that record of the file, and the walk stands before the records rs;
 -- the buffers were v₀ and g₀ and are now v and g
-pub record Gone (t : Tables) (f : Bytes) (first : ℕ) (ds rs : List Bytes) (w : Walk) (v₀ g₀ v g : Bytes) : Type 0 where
+pub record Gone (tables : Tables) (f : Bytes) (first : ℕ) (ds rs : List Bytes) (w : Walk) (v₀ g₀ v g : Bytes) : Type 0 where
   pub here : Here f (w .at) head rs
   pub room : Room (w .index) (length rs) (length v) (length g)
   pub index : w .index ≡ first + length ds
   pub known : Known (w .tally) ds
-  pub rejects : w .rejects ≡ anyOf rejects (detailsFrom t [] ds)
-  pub written : Written first (map worst (detailsFrom t [] ds)) (detailsFrom t [] ds) v₀ g₀ v g
+  pub rejects : w .rejects ≡ anyOf rejects (detailsFrom tables [] ds)
+  pub written : Written first (map worst (detailsFrom tables [] ds)) (detailsFrom tables [] ds) v₀ g₀ v g
 
 -- all details that stood there are done
-pub record Done (t : Tables) (f : Bytes) (first : ℕ) (rs : List Bytes) (d : Details) (v₀ g₀ v g : Bytes) : Type 0 where
-  pub gone : Gone t f first (span (isDetail cwr22) rs) (after (isDetail cwr22) rs) (d .walk) v₀ g₀ v g
+pub record Done (tables : Tables) (f : Bytes) (first : ℕ) (rs : List Bytes) (d : Details) (v₀ g₀ v g : Bytes) : Type 0 where
+  pub gone : Gone tables f first (span (isDetail cwr22) rs) (after (isDetail cwr22) rs) (d .walk) v₀ g₀ v g
   pub linked : Linked (d .links) (span (isDetail cwr22) rs)
   pub place : classAt (d .place) ≡ cls cwr22 (firstOf (after (isDetail cwr22) rs))
 

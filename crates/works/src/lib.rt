@@ -39,17 +39,17 @@ pub struct Walk {
     pub rejects: bool,
 }
 
-// Behind the last detail: what its chains have of findings 11 to 14, and the place of the record that follows.
+// After the last detail: what its chains have of findings 11 to 14, and the place of the record that follows.
 pub struct Details {
     pub walk: Walk,
     pub links: Links,
     pub place: u8,
 }
 
-// Behind one detail more, of that row, which is written.
+// After one detail more, of that row, which is written.
 fn on(w: Walk, row: Row, s: Step, verdicts: &mut [u8], findings: &mut [u8]) -> Walk
     requires { ⌜ (w .at + row .length + 2 ≤ mostBytes) × (w .index < length (now verdicts)) × (8 * (w .index + 1) ≤ length (now findings)) ⌝ }
-    ensures { λ o. ⌜ ((t : Tables) (f : Bytes) (first : ℕ) (ds : List Bytes) (r : Bytes) (rs : List Bytes) (v g : Bytes) → Gone t f first ds (r ∷ rs) w v g (now (verdicts .entry)) (now (findings .entry)) → First f (w .at) head row r rs → cls cwr22 r ≡ detail → Stepped t ds r s → Gone t f first (ds ++ r ∷ []) rs o v g (now (verdicts .exit)) (now (findings .exit))) ⌝ }
+    ensures { λ o. ⌜ ((tables : Tables) (f : Bytes) (first : ℕ) (ds : List Bytes) (r : Bytes) (rs : List Bytes) (v g : Bytes) → Gone tables f first ds (r ∷ rs) w v g (now (verdicts .entry)) (now (findings .entry)) → First f (w .at) head row r rs → cls cwr22 r ≡ detail → Stepped tables ds r s → Gone tables f first (ds ++ r ∷ []) rs o v g (now (verdicts .exit)) (now (findings .exit))) ⌝ }
 {
     let i = w.index;
     let found = s.found;
@@ -63,7 +63,7 @@ fn on(w: Walk, row: Row, s: Step, verdicts: &mut [u8], findings: &mut [u8]) -> W
     }
 }
 
-// The details that stand here, behind a header; the first of them is that record of the file.
+// The details that stand here, after a header; the first of them is that record of the file.
 pub fn judge_details(
     file: &[u8],
     start: usize,
@@ -75,7 +75,7 @@ pub fn judge_details(
 ) -> Details
     requires { ⌜ (length (now file) ≤ mostBytes) × Here (now file) start head (restAt (now file) start) × Room first (length (restAt (now file) start)) (length (now verdicts)) (length (now findings)) ⌝ }
     requires { ⌜ Indexed 3 (now societies) (now slots) ⌝ }
-    ensures { λ d. ⌜ ((t : Tables) → t .societies ≡ now (societies .entry) → Done t (now (file .entry)) first (restAt (now (file .entry)) start) d (now (verdicts .entry)) (now (findings .entry)) (now (verdicts .exit)) (now (findings .exit))) ⌝ }
+    ensures { λ d. ⌜ ((tables : Tables) → tables .societies ≡ now (societies .entry) → Done tables (now (file .entry)) first (restAt (now (file .entry)) start) d (now (verdicts .entry)) (now (findings .entry)) (now (verdicts .exit)) (now (findings .exit))) ⌝ }
 {
     let rows = kinds::table();
     let mut begun: [u8; 100] = [0; 100];
@@ -86,7 +86,7 @@ pub fn judge_details(
     let mut met = Met {
         many: false,
         joined: false,
-        behind: false,
+        kept: false,
     };
     let none = Tally::start();
     let mut w = Walk {
@@ -131,11 +131,11 @@ fn links_of(met: Met, begun: &[u8; 100], sums: &[u64; 100]) -> Links
         many: met.many,
         shareless: chains::shareless(begun, sums),
         joined: met.joined,
-        behind: met.behind,
+        kept: met.kept,
     }
 }
 
-// Behind a transaction: where the next record begins, its number and its place; whether the header has finding 0.
+// After a transaction: where the next record begins, its number and its place; whether the header has finding 0.
 pub struct Passed {
     pub at: usize,
     pub index: usize,

@@ -79,7 +79,7 @@ returns c tables ds k l j =
       ← l .many,
       ← l .shareless,
       ← l .joined,
-      ← l .behind,
+      ← l .kept,
       ← at15 .found15 .ensures ds (k .marks),
     )
     (c .gather .ensures (fieldFindings tables [] h) (j .set ∙ ap setOf own) (j .level ∙ ap worst own))

@@ -1,4 +1,4 @@
--- `lines::lines_from` meets its contract: the lines from i on, behind n, are those that were asked for.
+-- `lines::lines_from` meets its contract: the lines from i on, after n, are those that were asked for.
 use Prim.Native.Nat.{_-_, _+_, _≤_}
 use native.Mathlib.Omega.{arith}
 use mathlib.Core.Path.{refl, sym, _∙_}

@@ -118,13 +118,13 @@ number-line-requires c κs =
     let fit = room (c .before .before .before .before .before .before .before .before .before .before .before .before .before .before .before .before .before .before .args .file .now) (c .before .before .before .before .before .before .before .before .before .before .before .before .before .before .before .before .before .before .args .out .now) (c .before .before .before .before .before .before .before .before .before .before .before .before .before .loop .out) (c .before .before .before .before .before .before .before .before .before .before .before .before .before .loop .s) F (c .before .before .before .before .before .before .before .before .before .before .before .if1 .taken) (c .before .before .before .confirmed .result) (its d) in
     (part ∙ sym line, (b .kept, omega (arith, b .few, b .inside, c .before .before .before .before .before .before .before .before .before .before .before .before .before .before .before .before .before .before .pre .0 .short)), omega (arith, line, fit, c .before .before .size .ensures))
 
-behind-requires : tie.Need-behind-requires Inv-loop μ-loop
-behind-requires c κs =
+after-record-requires : tie.Need-after-record-requires Inv-loop μ-loop
+after-record-requires c κs =
     let b = c .before .before .before .before .before .before .before .before .before .before .before .before .before .before .before .before .loop .inv .bounded in
     (omega (arith, b .inside, c .before .before .before .before .before .before .before .before .before .before .before .before .before .before .before .before .before .before .before .before .before .pre .0 .short), b .kept, b .few)
 
 loop-less : tie.Need-loop-less Inv-loop μ-loop
-loop-less c = omega (arith, end (c .before .before .before .before .before .before), c .behind .ensures .at, c .before .before .before .before .before .before .size .ensures)
+loop-less c = omega (arith, end (c .before .before .before .before .before .before), c .after-record .ensures .at, c .before .before .before .before .before .before .size .ensures)
 
 loop-again : tie.Need-loop-again Inv-loop μ-loop
 loop-again c =
@@ -134,7 +134,7 @@ loop-again c =
     let part = mid-len (c .before .before .before .before .before .before .before .before .before .before .before .before .before .before .before .before .before .loop .s .at) e (c .before .before .before .before .before .before .before .before .before .before .before .before .before .before .before .before .before .loop .out) (omega (arith, end d, c .before .before .before .before .before .before .before .before .before .before .before .before .before .before .before .before .before .before .before .before .before .before .pre .1, F .same)) in
     filling-on (c .before .before .before .before .before .before .before .before .before .before .before .before .before .before .before .before .before .before .before .before .before .before .args .file .now) (c .before .before .before .before .before .before .before .before .before .before .before .before .before .before .before .before .before .before .before .before .before .before .args .out .now) (c .before .before .before .before .before .before .before .before .before .before .before .before .before .before .before .before .before .loop .out) (c .before .before .before .before .before .before .before .before .before .before .before .before .before .before .before .before .before .loop .s) F (c .before .before .before .before .before .before .before .before .before .before .before .before .before .before .before .if1 .taken) (c .before .before .before .before .before .before .before .confirmed .result) (its d)
     e (ap (λ (n : ℕ). c .before .before .before .before .before .before .before .before .before .before .before .before .before .before .before .before .before .loop .s .at + n + 2) (c .before .before .before .before .before .before .size .ensures)) (c .before .before .before .number-line .last .1 .0) (c .before .before .before .number-line .ensures)
-    (omega (arith, c .before .before .before .before .before .before .before .before .before .before .before .before .before .before .before .before .before .before .before .before .before .before .pre .1, F .same)) (c .before .before .before .number-line .kept .1 .0 ∙ part) _ (c .behind .ensures)
+    (omega (arith, c .before .before .before .before .before .before .before .before .before .before .before .before .before .before .before .before .before .before .before .before .before .before .pre .1, F .same)) (c .before .before .before .number-line .kept .1 .0 ∙ part) _ (c .after-record .ensures)
 
 same-length : tie.Need-same-length Inv-loop μ-loop
 same-length c = c .before .before .loop .inv .same
@@ -173,7 +173,7 @@ fill-spec =
     part-number-line-start-2
     part-number-line-end-2
     number-line-requires
-    behind-requires
+    after-record-requires
     loop-less
     loop-again
     same-length

@@ -64,19 +64,19 @@ more-requires c κs =
       (c .before .before .row-of .ensures, is-typed (g .file .now) (g .asked) (g .version) (l .s) (l .m) _ (l .inv) (c .before .before .before .before .before .if1 .taken) (c .before .before .before .before .text-end .result) (c .before .before .before .before .text-end .ensures .0) _ refl (c .before .before .row-of .result) (c .before .before .row-of .ensures) (c .before .shaped .result) (c .before .shaped .ensures) ∙ not-false _ (c .if2 .left)),
     )
 
-behind-requires : tie.Need-behind-requires Inv-loop μ-loop
-behind-requires c κs =
+after-record-requires : tie.Need-after-record-requires Inv-loop μ-loop
+after-record-requires c κs =
     let b = c .before .before .before .before .before .before .before .before .loop .inv .bounded in
     (omega (arith, b .inside), b .kept, b .few)
 
 loop-less : tie.Need-loop-less Inv-loop μ-loop
-loop-less c = omega (arith, c .behind .ensures .at)
+loop-less c = omega (arith, c .after-record .ensures .at)
 
 loop-again : tie.Need-loop-again Inv-loop μ-loop
 loop-again c =
     let g = c .before .before .before .before .before .before .before .before .before .before .before .args in
     let l = c .before .before .before .before .before .before .before .before .before .loop in
-    judging-on (g .file .now) (g .asked) (g .version) (l .s) (l .m) _ (l .inv) (c .before .before .before .before .before .before .before .if1 .taken) (c .before .before .before .before .before .before .text-end .result) (c .before .before .before .before .before .before .text-end .ensures .0) _ refl (c .before .before .before .before .row-of .result) (c .before .before .before .before .row-of .ensures) (c .before .before .before .shaped .result) (c .before .before .before .shaped .ensures) (not-false _ (c .before .before .if2 .left)) _ (c .behind .ensures) _ (c .before .more .ensures)
+    judging-on (g .file .now) (g .asked) (g .version) (l .s) (l .m) _ (l .inv) (c .before .before .before .before .before .before .before .if1 .taken) (c .before .before .before .before .before .before .text-end .result) (c .before .before .before .before .before .before .text-end .ensures .0) _ refl (c .before .before .before .before .row-of .result) (c .before .before .before .before .row-of .ensures) (c .before .before .before .shaped .result) (c .before .before .before .shaped .ensures) (not-false _ (c .before .before .if2 .left)) _ (c .after-record .ensures) _ (c .before .more .ensures)
 
 ended-requires : tie.Need-ended-requires Inv-loop μ-loop
 ended-requires c κs = c .before .before .loop .inv .bounded .place
@@ -103,7 +103,7 @@ judge-spec =
     index-requires
     returns
     more-requires
-    behind-requires
+    after-record-requires
     loop-less
     loop-again
     ended-requires

@@ -64,21 +64,21 @@ right-requires c κs =
 returns-2 : tie.Need-returns-2 Inv-loop μ-loop
 returns-2 c = c .before .before .before .before .before .before .before .before .loop .inv
 
-behind-requires : tie.Need-behind-requires Inv-loop μ-loop
-behind-requires c κs =
+after-record-requires : tie.Need-after-record-requires Inv-loop μ-loop
+after-record-requires c κs =
     let b = c .before .before .before .before .before .before .before .before .loop .inv .bounded in
     (omega (arith, b .inside), b .kept, b .few)
 
 loop-less : tie.Need-loop-less Inv-loop μ-loop
 loop-less c =
     let r = c .before .before .right .ensures (not-false _ (c .before .if2 .left)) in
-    omega (arith, r .fits, c .behind .ensures .at)
+    omega (arith, r .fits, c .after-record .ensures .at)
 
 loop-again : tie.Need-loop-again Inv-loop μ-loop
 loop-again c =
     let r = c .before .before .right .ensures (not-false _ (c .before .if2 .left)) in
     stood-by (c .before .before .before .before .before .before .before .before .before .before .before .table .result) (c .before .before .before .before .before .before .before .before .before .before .before .table .ensures) (c .before .before .before .before .hint .result) (c .before .before .before .before .hint .ensures) _ (c .before .before .before .before .before .before .before .before .before .before .before .before .before .args .file .now) (c .before .before .before .before .before .before .before .before .before .before .before .before .before .args .asked) (c .before .before .before .before .before .before .before .before .before .loop .s) _
-    (c .before .before .before .before .before .before .before .before .before .loop .inv) r (c .behind .ensures)
+    (c .before .before .before .before .before .before .before .before .before .loop .inv) r (c .after-record .ensures)
 
 pub walk-spec : {M : Type 1} → statement M
 walk-spec =
@@ -101,6 +101,6 @@ walk-spec =
     array-copy-out-row
     right-requires
     returns-2
-    behind-requires
+    after-record-requires
     loop-less
     loop-again)

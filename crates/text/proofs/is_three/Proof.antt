@@ -1,6 +1,5 @@
 -- `text::is_three` meets its contract: another length is another field.
 use native.Mathlib.Omega.{arith}
-use lib.ListN.{length}
 use Rattle.text.proofs.Laws.{three-not, three-are}
 use Rattle.text.proofs.is_three.Statement.{statement}
 use Rattle.text.proofs.is_three.Tie as tie

@@ -1,4 +1,4 @@
--- `text::next_eight` meets its contract: the digits that are left, grown by one, and the zeros behind them are the next number's.
+-- `text::next_eight` meets its contract: the digits that are left, grown by one, and the zeros after them are the next number's.
 use native.Mathlib.Omega.{arith}
 use Rattle.text.proofs.Words.{Carrying, carry-start, carry-on, carry-end}
 use Rattle.text.proofs.next_eight.Statement.{statement}

@@ -7,7 +7,7 @@ shareless-requires : tie.Need-shareless-requires
 shareless-requires c κs = search needs
 
 returns : tie.Need-returns
-returns c ds es own paid t = record { many = t .many; shareless = c .shareless .ensures ds (t .begun) (t .sums); joined = t .joined; behind = t .behind }
+returns c ds es own paid t = record { many = t .many; shareless = c .shareless .ensures ds (t .begun) (t .sums); joined = t .joined; kept = t .kept }
 
 pub links-of-spec : {M : Type 1} → statement M
 links-of-spec = tie.close (tie.spec shareless-requires returns)
