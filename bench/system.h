@@ -1,5 +1,5 @@
-/* What the benchmark uses of the C library, declared here for 64-bit Linux, so
- * that it can be compiled for another machine without that machine's headers. */
+/* What the benchmark uses of the C library of 64-bit Linux on x86-64, beside
+ * what tools/libc declares. */
 #ifndef SYSTEM_H
 #define SYSTEM_H
 

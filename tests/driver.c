@@ -3,9 +3,9 @@
  * with PROBE defined it holds the archive of the probe, else the library's
  * own, since the two need not go into one program.
  *
- * No header is included, so that it can be compiled for another machine
- * without that machine's headers: what it needs is declared here. It supposes
- * 32-bit int, 64-bit long and pointers, and the constants of Linux. */
+ * No header is included, so that it can be compiled with those of no machine:
+ * what it needs is declared here. It supposes 32-bit int, 64-bit long and
+ * pointers, and the constants of Linux. */
 
 typedef unsigned char u8;
 typedef unsigned int u32;

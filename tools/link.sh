@@ -1,6 +1,6 @@
 # Sourced, not run: how a C program over an archive of the library is built and started. The archive is for x86-64 and so is the program,
-# on whatever machine it is built: compiler, linker and C library are those of the Rattle kit, the headers those of tools/libc. Only to
-# start it another processor needs more, the emulator of the kit.
+# on whatever machine it is built: compiler, linker and C library are those of the Rattle kit, the headers those of tools/libc. Another
+# processor needs the kit's emulator to start it, and that is all that differs.
 #
 # Before it is used, `made` is the folder for what is built, and `me` the name of the script that sources this, for its messages.
 
@@ -60,13 +60,14 @@ forget_emulator() {
   for name in "${!QEMU_@}"; do unset "$name"; done
 }
 
-# start_of PROGRAM: `start` is the command that starts a program for x86-64
+# start_of PROGRAM: `start` is the command that starts a program for x86-64, with the C library of the kit
 start_of() {
-  start=("$1")
-  is_x86_64 && return
+  local loader emulator=()
   find_kit
-  start=("$kit_tools/bin/qemu-x86_64" "$kit_lib/ld-linux-x86-64.so.2" --library-path "$kit_lib" "$1")
-  needs "${start[@]:0:2}"
+  loader=$kit_lib/ld-linux-x86-64.so.2
+  is_x86_64 || emulator=("$kit_tools/bin/qemu-x86_64")
+  needs "${emulator[@]}" "$loader"
+  start=("${emulator[@]}" "$loader" --library-path "$kit_lib" "$1")
   forget_emulator
 }
 
