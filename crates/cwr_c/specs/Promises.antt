@@ -1,5 +1,6 @@
 -- What each call from C promises of the number that it answers and of what it leaves; that one outcome alone fits it, and what can be read
--- off the number: proofs/Alone.antt has the proofs. `cwr_findings_count` and `cwr_findings_lowest` promise what `count` and `lowest` of `cwr` do.
+-- off the number: proofs/Alone.antt has the proofs. `cwr_findings_count` and `cwr_findings_lowest` promise what `count` and `lowest` do in
+-- `cwr`, which has the proofs for them.
 use Prim.Native.Nat.{ℕ}
 use mathlib.Core.Path.{_≡_}
 use lib.ListN.{length}
