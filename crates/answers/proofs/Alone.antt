@@ -7,7 +7,8 @@ use lib.ListN.{getD}
 use Rattle.format.specs.Structure.{Answer as FormatAnswer, refused, passed}
 use Rattle.format.specs.Claims.{Near}
 use Rattle.answers.specs.declared.Answer.{Answer}
-use Rattle.answers.specs.declared.Answer.the-variants.{Tolerance, Table, Long, Many, Line, Shape, Place, Number, Total, Version, Short, Passed}
+use Rattle.answers.specs.declared.Answer.the-variants.{Tolerance, Table, Long, Many, Line, Shape}
+use Rattle.answers.specs.declared.Answer.the-variants.{Place, Number, Total, Version, Short, Passed}
 use Rattle.answers.specs.Numbers.{answerOf, exact}
 use Rattle.answers.specs.Claims.{Alike, Named, Says, NothingLost}
 

@@ -18,7 +18,8 @@ abbrev pub Named : FormatAnswer → Type 0
 Named (refused n i) = 1 ≤ n
 Named (passed g m r) = Unit {0}
 
--- what one number says: its upper 32 bits are the refusal's number, 0 where it passed; the lower are the place, or the number of records
+-- what one number says: its upper 32 bits are the refusal's number, 0 where it passed; the lower are the place, or the number of records, of
+-- which the other is 0
 abbrev pub Says : ℕ → FormatAnswer → Type 0
 Says r a = (r / 2 ^ 32 ≡ toldOf a .refusal) × (r % 2 ^ 32 ≡ toldOf a .place + toldOf a .records)
 

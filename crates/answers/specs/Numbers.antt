@@ -4,7 +4,8 @@ use mathlib.Core.Bool.{Bool, true, false}
 use Rattle.format.specs.Structure.{Answer as FormatAnswer, refused, passed, mostRecords}
 use Rattle.answers.specs.declared.Told.{Told}
 use Rattle.answers.specs.declared.Answer.{Answer}
-use Rattle.answers.specs.declared.Answer.the-variants.{Tolerance, Table, Long, Many, Line, Shape, Place, Number, Total, Version, Short, Passed}
+use Rattle.answers.specs.declared.Answer.the-variants.{Tolerance, Table, Long, Many, Line, Shape}
+use Rattle.answers.specs.declared.Answer.the-variants.{Place, Number, Total, Version, Short, Passed}
 
 abbrev pub answerOf : Answer → FormatAnswer
 answerOf Tolerance = refused 1 0

@@ -56,6 +56,14 @@ fn refusal(number: u64, place: usize) -> Told
     }
 }
 
+// A refusal in one number. An answer may hold any place, so its last 32 bits are taken; within the size limits they are the whole place.
+fn pack(number: u64, place: u64) -> u64
+    requires { ⌜ number ≤ 11 ⌝ }
+    ensures { λ r. ⌜ r ≡ packedOf (refused number place) ⌝ }
+{
+    number * 4294967296 + place % 4294967296
+}
+
 impl Answer {
     // In numbers. Nowhere else in code is a refusal given its number.
     pub fn told(self) -> Told
@@ -93,7 +101,7 @@ impl Answer {
         told.passes
     }
 
-    // In one number. An answer may hold any place, so the last 32 bits of it are taken; within the size limits they are the whole place.
+    // In one number.
     pub fn packed(self) -> u64
         ensures { λ r. ⌜ r ≡ packedOf (answerOf self) ⌝ }
     {
@@ -101,6 +109,6 @@ impl Answer {
         if told.passes {
             return told.records;
         }
-        told.refusal * 4294967296 + told.place % 4294967296
+        pack(told.refusal, told.place)
     }
 }

@@ -15,7 +15,8 @@ pub extern "C" fn cwr_check(
     verdicts: &mut [u8],
     findings: &mut [u8],
 ) -> u64
-    ensures { λ r. ⌜ CheckedC (tablesOf (now (languages .entry)) (now (societies .entry)) (now (categories .entry))) shortTolerance (now (file .entry)) (now (verdicts .entry)) (now (findings .entry)) r (now (verdicts .exit)) (now (findings .exit)) ⌝ }
+    ensures { λ r. ⌜ CheckedC (tablesOf (now (languages .entry)) (now (societies .entry)) (now (categories .entry))) shortTolerance
+        (now (file .entry)) (now (verdicts .entry)) (now (findings .entry)) r (now (verdicts .exit)) (now (findings .exit)) ⌝ }
 {
     let answer = cwr::check_short(file, languages, societies, categories, verdicts, findings);
     answer.packed()
@@ -32,7 +33,8 @@ pub extern "C" fn cwr_check_within(
     verdicts: &mut [u8],
     findings: &mut [u8],
 ) -> u64
-    ensures { λ r. ⌜ CheckedC (tablesOf (now (languages .entry)) (now (societies .entry)) (now (categories .entry))) tolerance (now (file .entry)) (now (verdicts .entry)) (now (findings .entry)) r (now (verdicts .exit)) (now (findings .exit)) ⌝ }
+    ensures { λ r. ⌜ CheckedC (tablesOf (now (languages .entry)) (now (societies .entry)) (now (categories .entry))) tolerance
+        (now (file .entry)) (now (verdicts .entry)) (now (findings .entry)) r (now (verdicts .exit)) (now (findings .exit)) ⌝ }
 {
     let answer = cwr::check(
         file,

@@ -158,8 +158,10 @@ fn put_line(
     out: &mut [u8],
     from: usize,
 ) -> usize
-    requires { ⌜ (at + 3 ≤ length (now file)) × (number < length (now verdicts)) × (8 * (number + 1) ≤ length (now findings)) × (from + 48 ≤ length (now out)) ⌝ }
-    ensures { λ r. ⌜ Put from (lineAt (now (file .entry)) at number (now (verdicts .entry)) (now (findings .entry))) (now (out .entry)) (now (out .exit)) r ⌝ }
+    requires { ⌜ (at + 3 ≤ length (now file)) × (number < length (now verdicts)) × (8 * (number + 1) ≤ length (now findings))
+        × (from + 48 ≤ length (now out)) ⌝ }
+    ensures { λ r. ⌜ Put from (lineAt (now (file .entry)) at number (now (verdicts .entry)) (now (findings .entry)))
+        (now (out .entry)) (now (out .exit)) r ⌝ }
     ensures { λ r. ⌜ r ≤ from + 48 ⌝ }
 {
     let end = 8 * (number + 1);
@@ -179,7 +181,8 @@ fn put_line(
 // A line for each record.
 fn put_records(file: &[u8], verdicts: &[u8], findings: &[u8], out: &mut [u8], start: usize) -> usize
     requires { ⌜ Listable (now file) (now verdicts) (now findings) × (start + 10 * length (now file) ≤ length (now out)) ⌝ }
-    ensures { λ r. ⌜ Put start (linesFrom (now (verdicts .entry)) (now (findings .entry)) 0 (recordsIn (lines (now (file .entry))))) (now (out .entry)) (now (out .exit)) r ⌝ }
+    ensures { λ r. ⌜ Put start (linesFrom (now (verdicts .entry)) (now (findings .entry)) 0 (recordsIn (lines (now (file .entry)))))
+        (now (out .entry)) (now (out .exit)) r ⌝ }
 {
     let mut at = 0;
     let mut number = 0;
@@ -202,8 +205,11 @@ fn put_outcome(
     findings: &[u8],
     out: &mut [u8],
 ) -> usize
-    requires { ⌜ (isPassed (answerOf answer) ≡ true → Listable (now file) (now verdicts) (now findings)) × (64 + 10 * length (now file) ≤ length (now out)) ⌝ }
-    ensures { λ r. ⌜ Put 0 (answerLine (answerOf answer) ++ listedAfter (answerOf answer) (linesFrom (now (verdicts .entry)) (now (findings .entry)) 0 (recordsIn (lines (now (file .entry)))))) (now (out .entry)) (now (out .exit)) r ⌝ }
+    requires { ⌜ (isPassed (answerOf answer) ≡ true → Listable (now file) (now verdicts) (now findings))
+        × (64 + 10 * length (now file) ≤ length (now out)) ⌝ }
+    ensures { λ r. ⌜ Put 0 (answerLine (answerOf answer) ++ listedAfter (answerOf answer)
+        (linesFrom (now (verdicts .entry)) (now (findings .entry)) 0 (recordsIn (lines (now (file .entry))))))
+        (now (out .entry)) (now (out .exit)) r ⌝ }
 {
     let first = put_answer(answer, out);
     if answer.passes() {

@@ -1,11 +1,10 @@
 -- `listing::print_listing` meets its contract: the listing ends within the buffer. Assumes nothing.
 use Prim.Native.Nat.{_≤_}
 use native.Mathlib.Omega.{arith}
-use mathlib.Core.Path.{sym, ap}
-use lib.ListN.{length, drop, length-append}
+use mathlib.Core.Path.{sym}
+use lib.ListN.{length, length-append}
 use lib.Seq.{length-take-le}
 use borrow.Author.Needs.{needs}
-use Rattle.rules.specs.Listing.{listing}
 use Rattle.listing.proofs.print_listing.Statement.{statement}
 use Rattle.listing.proofs.print_listing.Tie as tie
 
@@ -18,7 +17,7 @@ list-requires c κs = search needs
 print-requires : tie.Need-print-requires
 print-requires c κs =
     let l = c .before .before .list in
-    let ends : l .result ≤ length (l .last .1 .0) = omega (arith, l .ensures .0, ap length (l .ensures .1), length-append (listing _) (drop (l .result) _)) in
+    let ends : l .result ≤ length (l .last .1 .0) = rw (l .ensures .1, length-append) (omega (arith, l .ensures .0)) in
     (ends, sym (length-take-le (l .result) (l .last .1 .0) ends))
 
 returns : tie.Need-returns
