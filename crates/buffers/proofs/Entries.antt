@@ -1,4 +1,4 @@
--- Laws of `Written`, and of what a walk still owes. Assumes nothing.
+-- Laws of `Written`. Assumes nothing.
 use mathlib.Core.Path.{_≡_, refl, sym, ap, _∙_}
 use mathlib.Core.Bool.{Bool}
 use mathlib.Core.List.{List, [], _∷_, _++_}
@@ -12,12 +12,7 @@ use Rattle.rules.specs.Verdicts.{findingBytes}
 use Rattle.rules.proofs.Joined.{findings-one, findings-append, length-findings}
 use Rattle.format.specs.Lent.{splice}
 use Rattle.buffers.specs.Written.{Written}
-use Rattle.buffers.proofs.Splice.{splice-nil, set-splice, part-splice, length-splice, mid, splice-on, splice-over, splice-before}
-
--- what is still to be written from record i on makes the buffers tv and tf
-pub record Owed (tv tf : Bytes) (i : ℕ) (vs : List ℕ) (fs : List (List Bool)) (v f : Bytes) : Type 0 where
-  pub verdicts : splice i vs v ≡ tv
-  pub findings : splice (8 * i) (findingBytes fs) f ≡ tf
+use Rattle.buffers.proofs.Splice.{set-splice, part-splice, length-splice, mid, splice-on, splice-over, splice-before}
 
 -- ---- one entry
 
@@ -61,11 +56,6 @@ module _ {i : ℕ} {vs : List ℕ} {fs : List (List Bool)} {v f v' f' : Bytes} (
   on-f : (gs : List (List Bool)) → splice (8 * (i + length fs)) (findingBytes gs) f' ≡ splice (8 * i) (findingBytes (fs ++ gs)) f
   on-f gs = rw (w .findings, ← next-findings i fs, findings-append fs gs) (splice-on (8 * i) (findingBytes fs) f long-f (findingBytes gs))
 
-  -- a part of what was owed is written: the rest is owed
-  pub paid : {tv tf : Bytes} (us : List ℕ) (gs : List (List Bool)) → Owed tv tf i (vs ++ us) (fs ++ gs) v f
-      → Owed tv tf (i + length fs) us gs v' f'
-  paid us gs o = record { verdicts = on-v us ∙ o .verdicts; findings = on-f gs ∙ o .findings }
-
   -- more is written after it
   pub then : {us : List ℕ} {gs : List (List Bool)} {v'' f'' : Bytes} → Written (i + length fs) us gs v' f' v'' f''
       → Written i (vs ++ us) (fs ++ gs) v f v'' f''
@@ -103,13 +93,3 @@ first {i} {x} {s} {us} {gs} {v} {f} w n = record {
   inV = omega (arith, w .inV);
   inF = omega (arith, w .inF);
 }
-
--- nothing is owed any more
-pub settled : {tv tf v f : Bytes} (i : ℕ) → Owed tv tf i [] [] v f → (v ≡ tv) × (f ≡ tf)
-unfolding findingBytes
-settled {v = v} {f = f} i o = (sym (splice-nil i v) ∙ o .verdicts, sym (splice-nil (8 * i) f) ∙ o .findings)
-
--- at the start all is owed
-pub owe : (i : ℕ) (vs : List ℕ) (fs : List (List Bool)) (v f : Bytes)
-    → Owed (splice i vs v) (splice (8 * i) (findingBytes fs) f) i vs fs v f
-owe i vs fs v f = record { verdicts = refl; findings = refl }

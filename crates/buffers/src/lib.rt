@@ -8,7 +8,7 @@ ghost use Rattle.rules.specs.Findings.{setOf, larger};
 ghost use Rattle.rules.specs.Verdicts.{raised};
 ghost use Rattle.buffers.specs.Written.{Written};
 
-// Writes one record's verdict and findings, each to the record's place. Every number is the set of some list (set-places of `sets`).
+// Writes one record's verdict and findings, each to the record's place.
 pub fn settle(index: usize, set: u64, verdict: u8, verdicts: &mut [u8], findings: &mut [u8])
     requires { ⌜ (index < length (now verdicts)) × (8 * (index + 1) ≤ length (now findings)) ⌝ }
     ensures { λ _. ⌜ ((s : List Bool) → set ≡ setOf s → Written index (verdict ∷ []) (s ∷ []) (now (verdicts .entry)) (now (findings .entry)) (now (verdicts .exit)) (now (findings .exit))) ⌝ }

@@ -2,10 +2,9 @@
 use mathlib.Core.Path.{_≡_, refl, sym, ap, _∙_}
 use mathlib.Core.Bool.{Bool, true, false, not, cond, _&&_, _||_, and-true, or-false}
 use mathlib.Core.List.{[], _∷_}
-use Prim.Native.Nat.{ℕ, _<_}
+use Prim.Native.Nat.{ℕ}
 use lib.Dec.{ltb, eqb}
-use lib.ListN.{length, getD, take, drop}
-use lib.Seq.{drop-cons}
+use lib.ListN.{length, getD, take}
 use Rattle.format.specs.Ascii.{ascii}
 use Rattle.format.specs.Bytes.{Bytes, sameBytes}
 use Rattle.format.specs.Fields.{fieldOf, isBlank, areDigits, numberOf}
@@ -25,15 +24,6 @@ one-is b f h = sym (and-true (eqb b (getD f 0 0))) ∙ ap (sameBytes (b ∷ []))
 
 pub serious-is : (f : Bytes) → length f ≡ 3 → (eqb 83 (getD f 0 0) && (eqb 69 (getD f 1 0) && eqb 82 (getD f 2 0))) ≡ sameBytes (ascii "SER") f
 serious-is f h = sym (rw (and-true (eqb 82 (getD f 2 0)))) ∙ ap (sameBytes (ascii "SER")) (spelled 3 f h)
-
--- the byte of a field of one
-pub field-one : (k : ℕ) (r : Bytes) → k < length r → getD r k 0 ∷ [] ≡ take 1 (drop k r)
-field-one k r h = rw (drop-cons r k 0 h)
-
-pub indicator-is : (b c : Bool) (x : ℕ) (f : Bytes) → x ∷ [] ≡ f → cond b 78 (cond c 78 x) ∷ [] ≡ cond b (ascii "N") (cond c (ascii "N") f)
-indicator-is true c x f h = refl
-indicator-is false true x f h = refl
-indicator-is false false x f h = h
 
 -- ---- finding 43, by the type
 

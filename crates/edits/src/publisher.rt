@@ -7,7 +7,7 @@ ghost use lib.ListN.{length, replicate};
 ghost use Rattle.format.specs.Bytes.{Bytes, sameBytes};
 ghost use Rattle.rules.specs.Tables.{Tables, publisherTypes};
 ghost use Rattle.rules.specs.Records.{isType};
-ghost use Rattle.rules.specs.Publisher.{publisherType, typeInForce, indicatorInForce, hasShare, strange, earlierE, is25, is26, is27, is28, is29, is30, is31, is32, is33, is34, is35, is36, is37};
+ghost use Rattle.rules.specs.Publisher.{publisherType, typeInForce, hasShare, strange, earlierE, is25, is26, is27, is28, is29, is30, is31, is32, is33, is34, is35, is36, is37};
 ghost use Rattle.rules.specs.Findings.{setOf, worst};
 ghost use Rattle.lookup.specs.Index.{Indexed};
 ghost use Rattle.edits.specs.Kinds.{Publisher};
@@ -119,22 +119,6 @@ fn found34(record: &[u8]) -> bool
     !is_spu(record)
         & is_byte(text::field(record, 76, 1), b'Y')
         & !text::blank(text::field(record, 31, 45))
-}
-
-const DEFAULT_33: u8 = b'N';
-
-const DEFAULT_34: u8 = b'N';
-
-// The indicator with those defaults in force.
-pub fn indicator(record: &[u8]) -> u8
-    requires { ⌜ Publisher (now «record») ⌝ }
-    ensures { λ r. ⌜ r ∷ [] ≡ indicatorInForce (now («record» .entry)) ⌝ }
-{
-    pick(
-        found33(record),
-        DEFAULT_33,
-        pick(found34(record), DEFAULT_34, record[75]),
-    )
 }
 
 // ---- the shares, each read once

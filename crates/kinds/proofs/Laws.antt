@@ -198,11 +198,6 @@ module _ (t : Bytes) where
   in-list n (suc k) (l ∷ ls) e =
       by-cases (among t l) (λ q. absurd (omega (arith, rw q at e))) (λ q. in-list (suc n) k ls ((rw q at e) ∙ omega arith))
 
-  in-none : (n k : ℕ) (ls : List (List Bytes)) → sortFrom (suc n) t ls ≡ 0 → among t (getD ls k []) ≡ false
-  in-none n k [] e = refl
-  in-none n zero (l ∷ ls) e = by-cases (among t l) (λ q. absurd (omega (arith, rw q at e))) (λ q. q)
-  in-none n (suc k) (l ∷ ls) e = by-cases (among t l) (λ q. absurd (omega (arith, rw q at e))) (λ q. in-none (suc n) k ls (rw q at e))
-
   module _ (kind : Row) (its : kind ≡ rowFor t) where
     sort-here : sortFrom 1 t sorts ≡ kind .sort
     unfolding sortOf
@@ -210,6 +205,3 @@ module _ (t : Bytes) where
 
     pub of-sort : (k : ℕ) → kind .sort ≡ suc k → among t (getD sorts k []) ≡ true
     of-sort k e = in-list 0 k sorts (sort-here ∙ e ∙ omega arith)
-
-    pub of-none : kind .sort ≡ 0 → (k : ℕ) → among t (getD sorts k []) ≡ false
-    of-none e k = in-none 0 k sorts (sort-here ∙ e)

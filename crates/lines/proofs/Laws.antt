@@ -2,7 +2,7 @@
 use mathlib.Core.Path.{_≡_, refl, sym, ap, _∙_}
 use mathlib.Core.Bool.{Bool, true, false, _&&_, cond, and-true, and-assoc, and-comm, and-self-left, and-eq-true-iff, false≢true}
 use mathlib.Core.List.{[], _∷_, _++_, append-nil}
-use Prim.Native.Nat.{ℕ, zero, suc, _+_, _-_, _<_, _≤_}
+use Prim.Native.Nat.{ℕ, suc, _+_, _-_, _<_, _≤_}
 use native.Mathlib.Numerals.{add-one}
 use native.Mathlib.Omega.{arith}
 use borrow.Author.Tests.{eqb-true}
@@ -11,7 +11,6 @@ use lib.ListN.{length, getD, take, drop, drop-of-length-le, length-drop, take-ap
 use lib.Seq.{take-suc, take-add, drop-cons, drop-drop}
 use Rattle.format.specs.Bytes.{Bytes, every, isText, Text, beginsPair}
 use Rattle.format.specs.Lines.{Lines, good, bad, lines}
-use Rattle.format.proofs.Logic.{is-true}
 use Rattle.format.proofs.Lines.{onto, lines-cons, lines-left, lines-fault}
 use Rattle.lines.specs.declared.Scan.{Scan}
 use Rattle.lines.specs.declared.Scan.the-variants as scan
@@ -66,14 +65,6 @@ text-stops (a ∷ t) b f e = go (isText a) refl (text-stops t b f) e
         → drop (cond x (suc (textLength t)) 0) (a ∷ t) ≡ b ∷ f → isText b ≡ false
     go true h further q = further q
     go false h further q = cc
-
--- text of l bytes before a CR LF pair
-pub text-length : (l : ℕ) (t : Bytes) → Text (take l t) → beginsPair (drop l t) ≡ true → textLength t ≡ l
-unfolding isText
-text-length zero [] h e = refl
-text-length zero (b ∷ t) h e = rw (eqb-true b 13 (and-eq-true-iff _ _ .0 e .0))
-text-length (suc l) [] h e = absurd (false≢true e)
-text-length (suc l) (b ∷ t) h e = rw (is-true (isText b) (h .0), text-length l t (h .1) e)
 
 -- what the search for the end keeps: the text from i on ends at e
 abbrev pub EndsAt : Bytes → ℕ → ℕ → Type 0

@@ -60,14 +60,6 @@ places-set (suc k) (b ∷ bs) h =
     rw (odd b (setOf bs), half b (setOf bs), places-set k bs (le-of-suc-le-suc h))
     (ap (λ (n : ℕ). b ∷ (bs ++ replicate n false)) (let e : k - length bs ≡ suc k - suc (length bs) = omega arith in e))
 
--- and every number is the set of its places
-pub set-places : (k n : ℕ) → n < 2 ^ k → setOf (places k n) ≡ n
-unfolding places setOf
-set-places zero n h = omega arith
-set-places (suc k) n h =
-    let g : n < 2 ^ k * 2 = rw pow-suc at h in
-    rw (set-places k (n / 2) (omega arith), ← bit (n % 2) (omega arith)) (omega arith)
-
 count-none : (k : ℕ) → countOf (replicate k false) ≡ 0
 unfolding countOf
 count-none zero = refl

@@ -1,6 +1,6 @@
 -- The walk's laws: where it starts, one record more, the end, and what each fault decides.
 use Prim.Native.Nat.{ℕ, suc, _+_}
-use native.Mathlib.Nat.{zero-add, add-zero}
+use native.Mathlib.Nat.{zero-add}
 use native.Mathlib.Omega.{arith}
 use mathlib.Core.Path.{_≡_, refl, ap, _∙_}
 use mathlib.Core.Bool.{Bool, true, false, cond, not, _||_}
@@ -12,7 +12,7 @@ use Rattle.format.specs.Bytes.{Bytes, Text}
 use Rattle.format.specs.Table.{Class, unknown, Table}
 use Rattle.format.specs.Lines.{Lines, good, bad, lines}
 use Rattle.format.specs.Checks.{Check, faultFrom, Counts, noneCounted, count, counting, cls, typed, rightlyNumbered, mayFollow, closes, check7}
-use Rattle.format.specs.Structure.{Answer, refused, refusal, unless, mostBytes, mostRecords, firstOf, judged, ofFile, ofLines, structure}
+use Rattle.format.specs.Structure.{Answer, refused, refusal, unless, mostBytes, firstOf, judged, ofFile, ofLines, structure}
 use Rattle.format.specs.Numbering.{placed, numbering, recordsIn}
 use Rattle.format.proofs.Lines.{onto, lines-cons}
 use Rattle.structure.specs.Rest.{orElse, Faults, faultless, asked8, asked9, judgedFrom, linesFrom, restFrom, moreFaults, atEnd}
@@ -56,10 +56,6 @@ module _ (𝕋 : Table) (asked version : Bool) where
 
   -- ---- the rest of a file
 
-  pub rest-lines : (p : Class) (n : Counts) (f : Bytes) (k : ℕ) → lines f ≡ bad k → restFrom 𝕋 asked version p n f ≡ refused 4 (n .records + k)
-  unfolding linesFrom
-  rest-lines p n f k e = rw e
-
   -- a record that is right in all that is asked moves nothing
   pub rest-turn : (p : Class) (n : Counts) (r f : Bytes) → Text r → typed 𝕋 r ≡ true → mayFollow p (cls 𝕋 r) ≡ true
       → (not asked || rightlyNumbered 𝕋 n r) ≡ true
@@ -76,18 +72,6 @@ module _ (𝕋 : Table) (asked version : Bool) where
       go (good rs) =
           let e : n .records + suc (length rs) ≡ count n (cls 𝕋 r) .records + length rs = omega arith in
           rw (e, judged-turn faultless p n r rs t, no-fault)
-
-  pub rest-end : (p : Class) (n : Counts)
-      → restFrom 𝕋 asked version p n [] ≡ refusal 5 (unless (leb (n .records) mostRecords) mostRecords) (atEnd 𝕋 asked version faultless p n)
-  unfolding linesFrom lines
-  rest-end p n = rw (add-zero, judged-end faultless p n)
-
-  -- and the scan for faults: the lines are good, so the records decide
-  pub rest-good : (p : Class) (n : Counts) (f : Bytes) (rs : List Bytes) → lines f ≡ good rs
-      → restFrom 𝕋 asked version p n f
-      ≡ refusal 5 (unless (leb (n .records + length rs) mostRecords) mostRecords) (judgedFrom 𝕋 asked version faultless p n rs)
-  unfolding linesFrom
-  rest-good p n f rs e = rw e
 
 -- ---- the whole file
 
