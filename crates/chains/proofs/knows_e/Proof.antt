@@ -4,11 +4,8 @@ use Rattle.chains.proofs.Laws.{knows}
 use Rattle.chains.proofs.knows_e.Statement.{statement}
 use Rattle.chains.proofs.knows_e.Tie as tie
 
-element-copy-out-result : tie.Need-element-copy-out-result
-element-copy-out-result c = search needs
-
 returns : tie.Need-returns
 returns c ds r t inside = knows (c .before .args .k) r inside (c .before .args .own .now) ds (c .before .pre) t
 
 pub knows-e-spec : {M : Type 1} → statement M
-knows-e-spec = tie.close (tie.spec element-copy-out-result returns)
+knows-e-spec = tie.close (tie.spec (λ c. search needs) returns)

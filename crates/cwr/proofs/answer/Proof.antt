@@ -6,35 +6,17 @@ use Rattle.cwr.proofs.Refusals.{wrong-tolerance, wrong-languages, wrong
 use Rattle.cwr.proofs.answer.Statement.{statement}
 use Rattle.cwr.proofs.answer.Tie as tie
 
-is-tolerance-requires : tie.Need-is-tolerance-requires
-is-tolerance-requires c κs = search needs
-
 returns : tie.Need-returns
 returns c = wrong-tolerance _ _ _ _ _ (sym (c .before .is-tolerance .ensures) ∙ not-true _ (c .if1 .taken))
-
-right-requires : tie.Need-right-requires
-right-requires c κs = search needs
 
 returns-2 : tie.Need-returns-2
 returns-2 c = wrong-languages _ _ _ _ _ (sym (c .before .before .before .is-tolerance .ensures) ∙ not-false _ (c .before .before .if1 .left)) (sym (c .before .right .ensures) ∙ not-true _ (c .if2 .taken))
 
-right-requires-2 : tie.Need-right-requires-2
-right-requires-2 c κs = search needs
-
 returns-3 : tie.Need-returns-3
 returns-3 c = wrong-societies _ _ _ _ _ (sym (c .before .before .before .before .before .is-tolerance .ensures) ∙ not-false _ (c .before .before .before .before .if1 .left)) (sym (c .before .before .before .right .ensures) ∙ not-false _ (c .before .before .if2 .left)) (sym (c .before .right2 .ensures) ∙ not-true _ (c .if3 .taken))
 
-right-requires-3 : tie.Need-right-requires-3
-right-requires-3 c κs = search needs
-
 returns-4 : tie.Need-returns-4
 returns-4 c = wrong-categories _ _ _ _ _ (sym (c .before .before .before .before .before .before .before .is-tolerance .ensures) ∙ not-false _ (c .before .before .before .before .before .before .if1 .left)) (sym (c .before .before .before .before .before .right .ensures) ∙ not-false _ (c .before .before .before .before .if2 .left)) (sym (c .before .before .before .right2 .ensures) ∙ not-false _ (c .before .before .if3 .left)) (sym (c .before .right3 .ensures) ∙ not-true _ (c .if4 .taken))
-
-check-requires : tie.Need-check-requires
-check-requires c κs = search needs
-
-in-room-requires : tie.Need-in-room-requires
-in-room-requires c κs = search needs
 
 returns-5 : tie.Need-returns-5
 returns-5 c = by-structure _ _ _ _ _ (sym (c .before .before .before .before .before .before .before .before .before .is-tolerance .ensures) ∙ not-false _ (c .before .before .before .before .before .before .before .before .if1 .left)) (sym (c .before .before .before .before .before .before .before .right .ensures) ∙ not-false _ (c .before .before .before .before .before .before .if2 .left)) (sym (c .before .before .before .before .before .right2 .ensures) ∙ not-false _ (c .before .before .before .before .if3 .left)) (sym (c .before .before .before .right3 .ensures) ∙ not-false _ (c .before .before .if4 .left)) _ _ (c .before .check .ensures) (c .in-room .ensures)
@@ -43,14 +25,5 @@ pub answer-spec : {M : Type 1} → statement M
 answer-spec =
     tie.close
     (tie.spec
-    is-tolerance-requires
-    returns
-    right-requires
-    returns-2
-    right-requires-2
-    returns-3
-    right-requires-3
-    returns-4
-    check-requires
-    in-room-requires
-    returns-5)
+    (λ c κs. search needs) returns (λ c κs. search needs) returns-2 (λ c κs. search needs) returns-3 (λ c κs. search needs)
+    returns-4 (λ c κs. search needs) (λ c κs. search needs) returns-5)

@@ -7,12 +7,6 @@ use Rattle.cwr.proofs.Outcomes.{refused-so, judged-so, in-order, fit}
 use Rattle.cwr.proofs.check.Statement.{statement}
 use Rattle.cwr.proofs.check.Tie as tie
 
-answer-requires : tie.Need-answer-requires
-answer-requires c κs = search needs
-
-passes-requires : tie.Need-passes-requires
-passes-requires c κs = search needs
-
 returns : tie.Need-returns
 returns c = refused-so _ _ _ _ _ _ (c .before .before .answer .ensures) (sym (c .before .passes .ensures) ∙ not-true _ (c .if1 .taken))
 
@@ -36,10 +30,4 @@ pub check-spec : {M : Type 1} → statement M
 check-spec =
     tie.close
     (tie.spec
-    answer-requires
-    passes-requires
-    returns
-    judge-requires
-    same-length
-    same-length-2
-    returns-2)
+    (λ c κs. search needs) (λ c κs. search needs) returns judge-requires same-length same-length-2 returns-2)

@@ -5,9 +5,6 @@ use Rattle.cwr.proofs.Refusals.{too-short, long-enough}
 use Rattle.cwr.proofs.in_room.Statement.{statement}
 use Rattle.cwr.proofs.in_room.Tie as tie
 
-told-requires : tie.Need-told-requires
-told-requires c κs = search needs
-
 returns : tie.Need-returns
 returns c = too-short (answerOf (c .before .before .before .args .answer)) (c .before .before .told .result) (c .before .before .told .ensures .0) _ _ (c .if1 .taken)
 
@@ -15,4 +12,4 @@ returns-2 : tie.Need-returns-2
 returns-2 c = long-enough (answerOf (c .before .before .before .args .answer)) (c .before .before .told .result) (c .before .before .told .ensures .0) _ _ (c .if1 .left)
 
 pub in-room-spec : {M : Type 1} → statement M
-in-room-spec = tie.close (tie.spec told-requires returns returns-2)
+in-room-spec = tie.close (tie.spec (λ c κs. search needs) returns returns-2)

@@ -7,42 +7,6 @@ use Rattle.cwr.proofs.Slots.{first-part, second-part, third-part}
 use Rattle.cwr.proofs.index_all.Statement.{statement}
 use Rattle.cwr.proofs.index_all.Tie as tie
 
-sub-index : tie.Need-sub-index
-sub-index c = search needs
-
-part-index-start : tie.Need-part-index-start
-part-index-start c = search needs
-
-part-index-end : tie.Need-part-index-end
-part-index-end c = search needs
-
-index-requires : tie.Need-index-requires
-index-requires c κs = search needs
-
-sub-index-2 : tie.Need-sub-index-2
-sub-index-2 c = search needs
-
-part-index-start-2 : tie.Need-part-index-start-2
-part-index-start-2 c = search needs
-
-part-index-end-2 : tie.Need-part-index-end-2
-part-index-end-2 c = search needs
-
-index-requires-2 : tie.Need-index-requires-2
-index-requires-2 c κs = search needs
-
-sub-index-3 : tie.Need-sub-index-3
-sub-index-3 c = search needs
-
-part-index-start-3 : tie.Need-part-index-start-3
-part-index-start-3 c = search needs
-
-part-index-end-3 : tie.Need-part-index-end-3
-part-index-end-3 c = search needs
-
-index-requires-3 : tie.Need-index-requires-3
-index-requires-3 c κs = search needs
-
 same-length : tie.Need-same-length
 same-length c = search needs
 
@@ -62,17 +26,6 @@ pub index-all-spec : {M : Type 1} → statement M
 index-all-spec =
     tie.close
     (tie.spec
-    sub-index
-    part-index-start
-    part-index-end
-    index-requires
-    sub-index-2
-    part-index-start-2
-    part-index-end-2
-    index-requires-2
-    sub-index-3
-    part-index-start-3
-    part-index-end-3
-    index-requires-3
-    same-length
-    returns)
+    (λ c. search needs) (λ c. search needs) (λ c. search needs) (λ c κs. search needs) (λ c. search needs) (λ c. search needs)
+    (λ c. search needs) (λ c κs. search needs) (λ c. search needs) (λ c. search needs) (λ c. search needs) (λ c κs. search needs)
+    same-length returns)

@@ -4,14 +4,8 @@ use Rattle.buffers.proofs.Entries.{kept-v, kept-f}
 use Rattle.cwr.proofs.judge.Statement.{statement}
 use Rattle.cwr.proofs.judge.Tie as tie
 
-slice-aggregate-index-all : tie.Need-slice-aggregate-index-all
-slice-aggregate-index-all c = search needs
-
 index-all-requires : tie.Need-index-all-requires
 index-all-requires c κs = (c .before .before .before .before .before .before .before .pre .1 .1, c .before .before .before .before .before .before .before .pre .1 .2, c .before .before .before .before .before .before .before .pre .1 .3, search needs)
-
-slice-aggregate-judge-indexed : tie.Need-slice-aggregate-judge-indexed
-slice-aggregate-judge-indexed c = search needs
 
 judge-indexed-requires : tie.Need-judge-indexed-requires
 judge-indexed-requires c κs = (c .before .before .before .before .before .before .before .before .before .before .before .before .pre .0, (c .before .before .before .before .before .before .before .before .before .before .before .before .pre .1 .0, c .before .before .before .before .index-all .ensures))
@@ -29,10 +23,4 @@ pub judge-spec : {M : Type 1} → statement M
 judge-spec =
     tie.close
     (tie.spec
-    slice-aggregate-index-all
-    index-all-requires
-    slice-aggregate-judge-indexed
-    judge-indexed-requires
-    same-length
-    same-length-2
-    returns)
+    (λ c. search needs) index-all-requires (λ c. search needs) judge-indexed-requires same-length same-length-2 returns)

@@ -5,29 +5,11 @@ use Rattle.buffers.proofs.Entries.{kept-v, kept-f}
 use Rattle.cwr.proofs.judge_indexed.Statement.{statement}
 use Rattle.cwr.proofs.judge_indexed.Tie as tie
 
-sub-judge-file : tie.Need-sub-judge-file
-sub-judge-file c = search needs
-
-part-judge-file-start : tie.Need-part-judge-file-start
-part-judge-file-start c = search needs
-
 part-judge-file-end : tie.Need-part-judge-file-end
 part-judge-file-end c = omega (arith, c .before .before .before .before .before .before .before .pre .1 .1 .long)
 
-sub-judge-file-2 : tie.Need-sub-judge-file-2
-sub-judge-file-2 c = search needs
-
-part-judge-file-start-2 : tie.Need-part-judge-file-start-2
-part-judge-file-start-2 c = search needs
-
 part-judge-file-end-2 : tie.Need-part-judge-file-end-2
 part-judge-file-end-2 c = omega (arith, c .before .before .before .before .before .before .before .before .pre .1 .1 .long)
-
-sub-judge-file-3 : tie.Need-sub-judge-file-3
-sub-judge-file-3 c = search needs
-
-part-judge-file-start-3 : tie.Need-part-judge-file-start-3
-part-judge-file-start-3 c = search needs
 
 part-judge-file-end-3 : tie.Need-part-judge-file-end-3
 part-judge-file-end-3 c = omega (arith, c .before .before .before .before .before .before .before .before .before .pre .1 .1 .long)
@@ -48,16 +30,5 @@ pub judge-indexed-spec : {M : Type 1} → statement M
 judge-indexed-spec =
     tie.close
     (tie.spec
-    sub-judge-file
-    part-judge-file-start
-    part-judge-file-end
-    sub-judge-file-2
-    part-judge-file-start-2
-    part-judge-file-end-2
-    sub-judge-file-3
-    part-judge-file-start-3
-    part-judge-file-end-3
-    judge-file-requires
-    same-length
-    same-length-2
-    returns)
+    (λ c. search needs) (λ c. search needs) part-judge-file-end (λ c. search needs) (λ c. search needs) part-judge-file-end-2
+    (λ c. search needs) (λ c. search needs) part-judge-file-end-3 judge-file-requires same-length same-length-2 returns)

@@ -4,17 +4,8 @@ use borrow.Author.Needs.{needs}
 use Rattle.cwr_c.proofs.cwr_number.Statement.{statement}
 use Rattle.cwr_c.proofs.cwr_number.Tie as tie
 
-number-requires : tie.Need-number-requires
-number-requires c κs = search needs
-
-packed-requires : tie.Need-packed-requires
-packed-requires c κs = search needs
-
-same-length : tie.Need-same-length
-same-length c = search needs
-
 returns : tie.Need-returns
 returns c = numbered (c .before .before .before .number .result) (c .packed .ensures) _ _ _ (c .before .before .before .number .ensures)
 
 pub cwr-number-spec : {M : Type 1} → statement M
-cwr-number-spec = tie.close (tie.spec number-requires packed-requires same-length returns)
+cwr-number-spec = tie.close (tie.spec (λ c κs. search needs) (λ c κs. search needs) (λ c. search needs) returns)

@@ -11,13 +11,10 @@ returns c = let g = c .before .args in early (g .y) (g .m) (g .d) (c .if1 .taken
 returns-2 : tie.Need-returns-2
 returns-2 c = let g = c .before .before .args in late (g .y) (g .m) (g .d) (c .if2 .taken)
 
-days-in-requires : tie.Need-days-in-requires
-days-in-requires c κs = search needs
-
 returns-3 : tie.Need-returns-3
 returns-3 c =
     let g = c .before .before .before .args in
     rw (c .days-in .ensures) (inside (g .y) (g .m) (g .d) (c .before .before .if1 .left) (c .before .if2 .left))
 
 pub is-day-spec : {M : Type 1} → statement M
-is-day-spec = tie.close (tie.spec returns returns-2 days-in-requires returns-3)
+is-day-spec = tie.close (tie.spec returns returns-2 (λ c κs. search needs) returns-3)

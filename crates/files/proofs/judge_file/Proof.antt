@@ -10,9 +10,6 @@ use Rattle.files.proofs.judge_file.Tie as tie
 settle-requires : tie.Need-settle-requires
 settle-requires c κs = header-room _ (c .before .before .before .before .before .before .before .before .before .before .before .pre .0 .1) _ _ (c .before .before .before .before .before .before .before .before .before .before .before .pre .0 .2)
 
-add-judge-groups : tie.Need-add-judge-groups
-add-judge-groups c = search needs
-
 judge-groups-requires : tie.Need-judge-groups-requires
 judge-groups-requires c κs = ((c .before .before .before .before .before .before .before .before .before .before .before .before .before .before .before .before .before .before .pre .0 .0, groups-here _ (c .before .before .before .before .before .before .before .before .before .before .before .before .before .before .before .before .before .before .pre .0 .1), room-kept (c .before .before .before .before .before .before .settle .ensures [] nothing) (groups-room _ (c .before .before .before .before .before .before .before .before .before .before .before .before .before .before .before .before .before .before .pre .0 .1) _ _ (c .before .before .before .before .before .before .before .before .before .before .before .before .before .before .before .before .before .before .pre .0 .2))), c .before .before .before .before .before .before .before .before .before .before .before .before .before .before .before .before .before .before .pre .1)
 
@@ -35,10 +32,4 @@ pub judge-file-spec : {M : Type 1} → statement M
 judge-file-spec =
     tie.close
     (tie.spec
-    settle-requires
-    add-judge-groups
-    judge-groups-requires
-    settle-requires-2
-    same-length
-    same-length-2
-    returns)
+    settle-requires (λ c. search needs) judge-groups-requires settle-requires-2 same-length same-length-2 returns)

@@ -10,29 +10,11 @@ use Rattle.files.proofs.Groups.{opening-ends, opening-lent, inside-here
 use Rattle.files.proofs.judge_group.Statement.{statement}
 use Rattle.files.proofs.judge_group.Tie as tie
 
-add-end : tie.Need-add-end
-add-end c = search needs
-
-sub-opening : tie.Need-sub-opening
-sub-opening c = search needs
-
-part-opening-start : tie.Need-part-opening-start
-part-opening-start c = search needs
-
 part-opening-end : tie.Need-part-opening-end
 part-opening-end c = omega (arith, opening-ends _ _ (c .before .before .before .before .before .before .before .before .before .pre .0 .1) (c .before .before .before .before .before .before .before .before .before .pre .0 .2))
 
-field-requires : tie.Need-field-requires
-field-requires c κs = search needs
-
 settle-requires : tie.Need-settle-requires
 settle-requires c κs = opening-room _ _ (c .before .before .before .before .before .before .before .before .before .before .before .before .before .pre .0 .1) (c .before .before .before .before .before .before .before .before .before .before .before .before .before .pre .0 .2) _ _ _ (c .before .before .before .before .before .before .before .before .before .before .before .before .before .pre .0 .3)
-
-add-judge-transactions : tie.Need-add-judge-transactions
-add-judge-transactions c = search needs
-
-add-judge-transactions-2 : tie.Need-add-judge-transactions-2
-add-judge-transactions-2 c = search needs
 
 judge-transactions-requires : tie.Need-judge-transactions-requires
 judge-transactions-requires c κs = ((c .before .before .before .before .before .before .before .before .before .before .before .before .before .before .before .before .before .before .before .before .pre .0 .0, inside-here _ _ (c .before .before .before .before .before .before .before .before .before .before .before .before .before .before .before .before .before .before .before .before .pre .0 .1) (c .before .before .before .before .before .before .before .before .before .before .before .before .before .before .before .before .before .before .before .before .pre .0 .2) _ refl, room-kept (c .before .before .before .before .before .before .settle .ensures [] nothing) (inside-room _ _ (c .before .before .before .before .before .before .before .before .before .before .before .before .before .before .before .before .before .before .before .before .pre .0 .1) (c .before .before .before .before .before .before .before .before .before .before .before .before .before .before .before .before .before .before .before .before .pre .0 .2) _ _ _ _ refl (c .before .before .before .before .before .before .before .before .before .before .before .before .before .before .before .before .before .before .before .before .pre .0 .3))), c .before .before .before .before .before .before .before .before .before .before .before .before .before .before .before .before .before .before .before .before .pre .1)
@@ -43,20 +25,11 @@ settle-requires-2 c κs = closing-room (c .before .before .before .before .befor
 add-e : tie.Need-add-e
 add-e c = omega (arith, room-left _ (c .before .before .before .before .before .before .before .before .before .before .before .judge-transactions .ensures .0) refl (room-kept (c .before .before .before .before .before .before .before .before .before .before .before .before .before .before .before .before .before .before .settle .ensures [] nothing) (inside-room _ _ (c .before .before .before .before .before .before .before .before .before .before .before .before .before .before .before .before .before .before .before .before .before .before .before .before .before .before .before .before .before .before .before .before .pre .0 .1) (c .before .before .before .before .before .before .before .before .before .before .before .before .before .before .before .before .before .before .before .before .before .before .before .before .before .before .before .before .before .before .before .before .pre .0 .2) _ _ _ _ refl (c .before .before .before .before .before .before .before .before .before .before .before .before .before .before .before .before .before .before .before .before .before .before .before .before .before .before .before .before .before .before .before .before .pre .0 .3))) .few)
 
-least-verdict-requires : tie.Need-least-verdict-requires
-least-verdict-requires c κs = search needs
-
-sub-raise : tie.Need-sub-raise
-sub-raise c = search needs
-
 part-raise-start : tie.Need-part-raise-start
 part-raise-start c = omega (arith, c .before .before .before .before .before .before .before .before .before .before .before .before .judge-transactions .ensures .0 .index)
 
 part-raise-end : tie.Need-part-raise-end
 part-raise-end c = omega (arith, closing-room (c .before .before .before .before .before .before .before .before .before .before .before .before .judge-transactions .ensures .0) (c .before .before .before .before .before .before .before .before .before .before .before .before .judge-transactions .ensures .1 .1) _ refl (room-kept (c .before .before .before .before .before .before .before .before .before .before .before .before .before .before .before .before .before .before .before .settle .ensures [] nothing) (inside-room _ _ (c .before .before .before .before .before .before .before .before .before .before .before .before .before .before .before .before .before .before .before .before .before .before .before .before .before .before .before .before .before .before .before .before .before .pre .0 .1) (c .before .before .before .before .before .before .before .before .before .before .before .before .before .before .before .before .before .before .before .before .before .before .before .before .before .before .before .before .before .before .before .before .before .pre .0 .2) _ _ _ _ refl (c .before .before .before .before .before .before .before .before .before .before .before .before .before .before .before .before .before .before .before .before .before .before .before .before .before .before .before .before .before .before .before .before .before .pre .0 .3))) .0, kept-v (c .before .before .before .before .before .settle2 .ensures [] nothing))
-
-raise-requires : tie.Need-raise-requires
-raise-requires c κs = search needs
 
 add-t21 : tie.Need-add-t21
 add-t21 c = omega (arith, closing-ends (c .before .before .before .before .before .before .before .before .before .before .before .before .before .before .before .before .before .judge-transactions .ensures .0) (c .before .before .before .before .before .before .before .before .before .before .before .before .before .before .before .before .before .judge-transactions .ensures .1 .1), c .before .before .before .before .before .before .before .before .before .before .before .before .before .before .before .before .before .before .before .before .before .before .before .before .before .before .before .before .before .before .before .before .before .before .before .before .before .before .pre .0 .0)
@@ -80,24 +53,6 @@ pub judge-group-spec : {M : Type 1} → statement M
 judge-group-spec =
     tie.close
     (tie.spec
-    add-end
-    sub-opening
-    part-opening-start
-    part-opening-end
-    field-requires
-    settle-requires
-    add-judge-transactions
-    add-judge-transactions-2
-    judge-transactions-requires
-    settle-requires-2
-    add-e
-    least-verdict-requires
-    sub-raise
-    part-raise-start
-    part-raise-end
-    raise-requires
-    add-t21
-    add-t28
-    same-length
-    same-length-2
-    returns)
+    (λ c. search needs) (λ c. search needs) (λ c. search needs) part-opening-end (λ c κs. search needs) settle-requires
+    (λ c. search needs) (λ c. search needs) judge-transactions-requires settle-requires-2 add-e (λ c κs. search needs)
+    (λ c. search needs) part-raise-start part-raise-end (λ c κs. search needs) add-t21 add-t28 same-length same-length-2 returns)

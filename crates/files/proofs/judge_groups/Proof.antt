@@ -43,13 +43,4 @@ pub judge-groups-spec : {M : Type 1} → statement M
 judge-groups-spec =
     tie.close
     (tie.spec
-    Inv-loop
-    μ-loop
-    loop-holds
-    is-group-requires
-    judge-group-requires
-    loop-less
-    loop-again
-    same-length
-    same-length-2
-    returns)
+    Inv-loop μ-loop loop-holds is-group-requires judge-group-requires loop-less loop-again same-length same-length-2 returns)

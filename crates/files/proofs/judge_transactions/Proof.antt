@@ -40,12 +40,4 @@ pub judge-transactions-spec : {M : Type 1} → statement M
 judge-transactions-spec =
     tie.close
     (tie.spec
-    Inv-loop
-    μ-loop
-    loop-holds
-    judge-transaction-requires
-    loop-less
-    loop-again
-    same-length
-    same-length-2
-    returns)
+    Inv-loop μ-loop loop-holds judge-transaction-requires loop-less loop-again same-length same-length-2 returns)

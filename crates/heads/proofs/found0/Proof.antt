@@ -9,18 +9,6 @@ use borrow.Author.Needs.{needs}
 use Rattle.heads.proofs.found0.Statement.{statement}
 use Rattle.heads.proofs.found0.Tie as tie
 
-shared-slice-read-is-three : tie.Need-shared-slice-read-is-three
-shared-slice-read-is-three c = search needs
-
-shared-slice-read-is-three-2 : tie.Need-shared-slice-read-is-three-2
-shared-slice-read-is-three-2 c = search needs
-
-shared-slice-read-is-three-3 : tie.Need-shared-slice-read-is-three-3
-shared-slice-read-is-three-3 c = search needs
-
-is-three-requires : tie.Need-is-three-requires
-is-three-requires c κs = search needs
-
 returns : tie.Need-returns
 unfolding is0
 returns c =
@@ -31,8 +19,4 @@ pub found0-spec : {M : Type 1} → statement M
 found0-spec =
     tie.close
     (tie.spec
-    shared-slice-read-is-three
-    shared-slice-read-is-three-2
-    shared-slice-read-is-three-3
-    is-three-requires
-    returns)
+    (λ c. search needs) (λ c. search needs) (λ c. search needs) (λ c κs. search needs) returns)

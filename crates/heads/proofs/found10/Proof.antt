@@ -6,12 +6,6 @@ use borrow.Author.Needs.{needs}
 use Rattle.heads.proofs.found10.Statement.{statement}
 use Rattle.heads.proofs.found10.Tie as tie
 
-field-requires : tie.Need-field-requires
-field-requires c κs = search needs
-
-is-three-requires : tie.Need-is-three-requires
-is-three-requires c κs = search needs
-
 returns : tie.Need-returns
 unfolding is10
 returns c ds m =
@@ -20,4 +14,4 @@ returns c ds m =
     rw (same-as (f .result .now) (relationship h) (ascii "MUS") (c .before .is-three .result) (c .before .is-three .ensures) (f .ensures .0), m .author)
 
 pub found10-spec : {M : Type 1} → statement M
-found10-spec = tie.close (tie.spec field-requires is-three-requires returns)
+found10-spec = tie.close (tie.spec (λ c κs. search needs) (λ c κs. search needs) returns)

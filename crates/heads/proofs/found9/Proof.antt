@@ -7,12 +7,6 @@ use borrow.Author.Needs.{needs}
 use Rattle.heads.proofs.found9.Statement.{statement}
 use Rattle.heads.proofs.found9.Tie as tie
 
-field-requires : tie.Need-field-requires
-field-requires c κs = search needs
-
-is-three-requires : tie.Need-is-three-requires
-is-three-requires c κs = search needs
-
 returns : tie.Need-returns
 unfolding is9
 returns c ds m =
@@ -21,4 +15,4 @@ returns c ds m =
     rw (same-as (f .result .now) (category h) (ascii "SER") (c .before .is-three .result) (c .before .is-three .ensures) (f .ensures .0), m .instrument)
 
 pub found9-spec : {M : Type 1} → statement M
-found9-spec = tie.close (tie.spec field-requires is-three-requires returns)
+found9-spec = tie.close (tie.spec (λ c κs. search needs) (λ c κs. search needs) returns)

@@ -4,30 +4,6 @@ use borrow.Author.Needs.{needs}
 use Rattle.heads.proofs.gather.Statement.{statement}
 use Rattle.heads.proofs.gather.Tie as tie
 
-octet-requires : tie.Need-octet-requires
-octet-requires c κs = search needs
-
-octet-requires-2 : tie.Need-octet-requires-2
-octet-requires-2 c κs = search needs
-
-mul-set : tie.Need-mul-set
-mul-set c = search needs
-
-add-set : tie.Need-add-set
-add-set c = search needs
-
-mul-set-2 : tie.Need-mul-set-2
-mul-set-2 c = search needs
-
-add-set-2 : tie.Need-add-set-2
-add-set-2 c = search needs
-
-pick-requires : tie.Need-pick-requires
-pick-requires c κs = search needs
-
-pick-requires-2 : tie.Need-pick-requires-2
-pick-requires-2 c κs = search needs
-
 returns : tie.Need-returns
 returns c rest set level =
     let picked = c .before .before in
@@ -48,12 +24,5 @@ pub gather-spec : {M : Type 1} → statement M
 gather-spec =
     tie.close
     (tie.spec
-    octet-requires
-    octet-requires-2
-    mul-set
-    add-set
-    mul-set-2
-    add-set-2
-    pick-requires
-    pick-requires-2
-    returns)
+    (λ c κs. search needs) (λ c κs. search needs) (λ c. search needs) (λ c. search needs) (λ c. search needs) (λ c. search needs)
+    (λ c κs. search needs) (λ c κs. search needs) returns)

@@ -8,45 +8,6 @@ use borrow.Author.Needs.{needs}
 use Rattle.heads.proofs.judge.Statement.{statement}
 use Rattle.heads.proofs.judge.Tie as tie
 
-found0-requires : tie.Need-found0-requires
-found0-requires c κs = search needs
-
-publishers-exceed-requires : tie.Need-publishers-exceed-requires
-publishers-exceed-requires c κs = search needs
-
-writers-miss-requires : tie.Need-writers-miss-requires
-writers-miss-requires c κs = search needs
-
-incomplete-requires : tie.Need-incomplete-requires
-incomplete-requires c κs = search needs
-
-found4-requires : tie.Need-found4-requires
-found4-requires c κs = search needs
-
-found5-requires : tie.Need-found5-requires
-found5-requires c κs = search needs
-
-found6-requires : tie.Need-found6-requires
-found6-requires c κs = search needs
-
-found7-requires : tie.Need-found7-requires
-found7-requires c κs = search needs
-
-is-broken-requires : tie.Need-is-broken-requires
-is-broken-requires c κs = search needs
-
-found9-requires : tie.Need-found9-requires
-found9-requires c κs = search needs
-
-found10-requires : tie.Need-found10-requires
-found10-requires c κs = search needs
-
-found15-requires : tie.Need-found15-requires
-found15-requires c κs = search needs
-
-gather-requires : tie.Need-gather-requires
-gather-requires c κs = search needs
-
 returns : tie.Need-returns
 unfolding headerFindings
 returns c tables ds k l j =
@@ -88,17 +49,6 @@ pub judge-spec : {M : Type 1} → statement M
 judge-spec =
     tie.close
     (tie.spec
-    found0-requires
-    publishers-exceed-requires
-    writers-miss-requires
-    incomplete-requires
-    found4-requires
-    found5-requires
-    found6-requires
-    found7-requires
-    is-broken-requires
-    found9-requires
-    found10-requires
-    found15-requires
-    gather-requires
-    returns)
+    (λ c κs. search needs) (λ c κs. search needs) (λ c κs. search needs) (λ c κs. search needs) (λ c κs. search needs)
+    (λ c κs. search needs) (λ c κs. search needs) (λ c κs. search needs) (λ c κs. search needs) (λ c κs. search needs)
+    (λ c κs. search needs) (λ c κs. search needs) (λ c κs. search needs) returns)

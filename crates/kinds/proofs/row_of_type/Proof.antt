@@ -6,24 +6,6 @@ use Rattle.kinds.proofs.Laws.{hinted, searched}
 use Rattle.kinds.proofs.row_of_type.Statement.{statement}
 use Rattle.kinds.proofs.row_of_type.Tie as tie
 
-table-requires : tie.Need-table-requires
-table-requires c κs = search needs
-
-hint-requires : tie.Need-hint-requires
-hint-requires c κs = search needs
-
-mul-hinted : tie.Need-mul-hinted
-mul-hinted c = search needs
-
-array-copy-out-hinted : tie.Need-array-copy-out-hinted
-array-copy-out-hinted c = search needs
-
-is-type-requires : tie.Need-is-type-requires
-is-type-requires c κs = search needs
-
-search-requires : tie.Need-search-requires
-search-requires c κs = search needs
-
 returns : tie.Need-returns
 returns c =
     let at = c .before .before .before in
@@ -36,11 +18,5 @@ pub row-of-type-spec : {M : Type 1} → statement M
 row-of-type-spec =
     tie.close
     (tie.spec
-    table-requires
-    hint-requires
-    mul-hinted
-    array-copy-out-hinted
-    is-type-requires
-    search-requires
-    returns
-    returns-2)
+    (λ c κs. search needs) (λ c κs. search needs) (λ c. search needs) (λ c. search needs) (λ c κs. search needs)
+    (λ c κs. search needs) returns returns-2)

@@ -17,26 +17,17 @@ Inv-loop part last good₀ i₀ good i = good ≡ (every isText (take i part) &&
 abbrev μ-loop : tie.MeasureT-loop
 μ-loop part last good₀ i₀ good i = last - i
 
-short-text-requires : tie.Need-short-text-requires Inv-loop μ-loop
-short-text-requires c κs = search needs
-
 returns : tie.Need-returns Inv-loop μ-loop
 returns c = c .short-text .ensures
 
 sub-last : tie.Need-sub-last Inv-loop μ-loop
 sub-last c = omega arith
 
-block-text-requires : tie.Need-block-text-requires Inv-loop μ-loop
-block-text-requires c κs = search needs
-
 loop-holds : tie.Need-loop-holds Inv-loop μ-loop
 loop-holds c =
     let part = c .before .before .before .args .part .now in
     let last = length part - 32 in
     c .block-text .ensures ∙ ap (every isText) (take-all 32 (drop last part) (omega (arith, length-drop last part)))
-
-block-text-requires-2 : tie.Need-block-text-requires-2 Inv-loop μ-loop
-block-text-requires-2 c κs = search needs
 
 add-i : tie.Need-add-i Inv-loop μ-loop
 add-i c = omega arith
@@ -56,15 +47,5 @@ pub all-text-spec : {M : Type 1} → statement M
 all-text-spec =
     tie.close
     (tie.spec
-    Inv-loop
-    μ-loop
-    short-text-requires
-    returns
-    sub-last
-    block-text-requires
-    loop-holds
-    block-text-requires-2
-    add-i
-    loop-less
-    loop-again
-    returns-2)
+    Inv-loop μ-loop (λ c κs. search needs) returns sub-last (λ c κs. search needs) loop-holds (λ c κs. search needs) add-i
+    loop-less loop-again returns-2)

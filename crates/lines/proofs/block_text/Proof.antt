@@ -25,9 +25,6 @@ add-is-text c = omega arith
 shared-slice-read-is-text : tie.Need-shared-slice-read-is-text Inv-loop μ-loop
 shared-slice-read-is-text c = omega arith
 
-is-text-requires : tie.Need-is-text-requires Inv-loop μ-loop
-is-text-requires c κs = search needs
-
 add-k : tie.Need-add-k Inv-loop μ-loop
 add-k c = omega arith
 
@@ -50,13 +47,4 @@ pub block-text-spec : {M : Type 1} → statement M
 block-text-spec =
     tie.close
     (tie.spec
-    Inv-loop
-    μ-loop
-    loop-holds
-    add-is-text
-    shared-slice-read-is-text
-    is-text-requires
-    add-k
-    loop-less
-    loop-again
-    returns)
+    Inv-loop μ-loop loop-holds add-is-text shared-slice-read-is-text (λ c κs. search needs) add-k loop-less loop-again returns)

@@ -24,12 +24,6 @@ fits c = pair-fits _ (c .before .before .text-end .result) (sym (c .before .pair
 loop-holds : tie.Need-loop-holds Inv-loop μ-loop
 loop-holds c = (c .before .pre .0, c .before .pre .1, refl)
 
-text-end-requires : tie.Need-text-end-requires Inv-loop μ-loop
-text-end-requires c κs = search needs
-
-pair-at-requires : tie.Need-pair-at-requires Inv-loop μ-loop
-pair-at-requires c κs = search needs
-
 add-n : tie.Need-add-n Inv-loop μ-loop
 add-n c = omega arith
 
@@ -58,14 +52,4 @@ pub lines-from-spec : {M : Type 1} → statement M
 lines-from-spec =
     tie.close
     (tie.spec
-    Inv-loop
-    μ-loop
-    loop-holds
-    text-end-requires
-    pair-at-requires
-    add-n
-    add-i
-    loop-less
-    loop-again
-    returns
-    returns-2)
+    Inv-loop μ-loop loop-holds (λ c κs. search needs) (λ c κs. search needs) add-n add-i loop-less loop-again returns returns-2)

@@ -30,10 +30,4 @@ pub pair-at-spec : {M : Type 1} → statement M
 pair-at-spec =
     tie.close
     (tie.spec
-    returns
-    sub-if2
-    returns-2
-    shared-slice-read-result
-    add-result
-    shared-slice-read-result-2
-    returns-3)
+    returns sub-if2 returns-2 shared-slice-read-result add-result shared-slice-read-result-2 returns-3)

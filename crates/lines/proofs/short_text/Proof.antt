@@ -22,9 +22,6 @@ loop-holds c = (omega arith, refl)
 shared-slice-read-is-text : tie.Need-shared-slice-read-is-text Inv-loop μ-loop
 shared-slice-read-is-text c = omega arith
 
-is-text-requires : tie.Need-is-text-requires Inv-loop μ-loop
-is-text-requires c κs = search needs
-
 add-i : tie.Need-add-i Inv-loop μ-loop
 add-i c = omega arith
 
@@ -43,12 +40,4 @@ pub short-text-spec : {M : Type 1} → statement M
 short-text-spec =
     tie.close
     (tie.spec
-    Inv-loop
-    μ-loop
-    loop-holds
-    shared-slice-read-is-text
-    is-text-requires
-    add-i
-    loop-less
-    loop-again
-    returns)
+    Inv-loop μ-loop loop-holds shared-slice-read-is-text (λ c κs. search needs) add-i loop-less loop-again returns)

@@ -22,9 +22,6 @@ loop-holds c = (c .before .pre, refl)
 shared-slice-read-is-text : tie.Need-shared-slice-read-is-text Inv-loop μ-loop
 shared-slice-read-is-text c = omega arith
 
-is-text-requires : tie.Need-is-text-requires Inv-loop μ-loop
-is-text-requires c κs = search needs
-
 returns : tie.Need-returns Inv-loop μ-loop
 returns c =
     let l = c .before .before .before .before .loop in
@@ -50,13 +47,4 @@ pub text-end-spec : {M : Type 1} → statement M
 text-end-spec =
     tie.close
     (tie.spec
-    Inv-loop
-    μ-loop
-    loop-holds
-    shared-slice-read-is-text
-    is-text-requires
-    returns
-    add-i
-    loop-less
-    loop-again
-    returns-2)
+    Inv-loop μ-loop loop-holds shared-slice-read-is-text (λ c κs. search needs) returns add-i loop-less loop-again returns-2)

@@ -4,17 +4,8 @@ use borrow.Author.Needs.{needs}
 use Rattle.lister.proofs.list.Statement.{statement}
 use Rattle.lister.proofs.list.Tie as tie
 
-slice-aggregate-put-word : tie.Need-slice-aggregate-put-word
-slice-aggregate-put-word c = search needs
-
-put-word-requires : tie.Need-put-word-requires
-put-word-requires c κs = search needs
-
 returns : tie.Need-returns
 returns c = long-listed (c .before .before .before .before .before .args .input .now) (c .before .before .before .if1 .taken) (c .put-word .ensures .0)
-
-put-checked-requires : tie.Need-put-checked-requires
-put-checked-requires c κs = search needs
 
 returns-2 : tie.Need-returns-2
 returns-2 c = short-listed (c .before .before .before .before .before .before .args .input .now) (c .before .before .before .before .if1 .left) (c .put-checked .ensures)
@@ -22,4 +13,4 @@ returns-2 c = short-listed (c .before .before .before .before .before .before .a
 pub list-spec : {M : Type 1} → statement M
 list-spec =
     tie.close
-    (tie.spec slice-aggregate-put-word put-word-requires returns put-checked-requires returns-2)
+    (tie.spec (λ c. search needs) (λ c κs. search needs) returns (λ c κs. search needs) returns-2)

@@ -5,23 +5,8 @@ use Rattle.answers.proofs.Parts.{told-passed, told-refused}
 use Rattle.lister.proofs.put_answer.Statement.{statement}
 use Rattle.lister.proofs.put_answer.Tie as tie
 
-told-requires : tie.Need-told-requires
-told-requires c κs = search needs
-
-put-passed-requires : tie.Need-put-passed-requires
-put-passed-requires c κs = search needs
-
-put-refused-requires : tie.Need-put-refused-requires
-put-refused-requires c κs = search needs
-
-same-length : tie.Need-same-length
-same-length c = search needs
-
 returns : tie.Need-returns
 returns c = (rw (told-passed (answerOf (c .before .before .before .before .before .before .before .args .a)) (c .before .before .before .before .before .told .result) (c .before .before .before .before .before .told .ensures .0) (c .before .before .before .before .if1 .taken)) (c .before .before .put-passed .ensures .0), search needs)
-
-same-length-2 : tie.Need-same-length-2
-same-length-2 c = search needs
 
 returns-2 : tie.Need-returns-2
 returns-2 c = (rw (told-refused (answerOf (c .before .before .before .before .before .before .before .args .a)) (c .before .before .before .before .before .told .result) (c .before .before .before .before .before .told .ensures .0) (c .before .before .before .before .if1 .left)) (c .before .before .put-refused .ensures .0), search needs)
@@ -30,10 +15,4 @@ pub put-answer-spec : {M : Type 1} → statement M
 put-answer-spec =
     tie.close
     (tie.spec
-    told-requires
-    put-passed-requires
-    put-refused-requires
-    same-length
-    returns
-    same-length-2
-    returns-2)
+    (λ c κs. search needs) (λ c κs. search needs) (λ c κs. search needs) (λ c. search needs) returns (λ c. search needs) returns-2)

@@ -7,23 +7,8 @@ use borrow.Author.Needs.{needs}
 use Rattle.lister.proofs.put_checked.Statement.{statement}
 use Rattle.lister.proofs.put_checked.Tie as tie
 
-slice-aggregate-check-short : tie.Need-slice-aggregate-check-short
-slice-aggregate-check-short c = search needs
-
-slice-aggregate-check-short-2 : tie.Need-slice-aggregate-check-short-2
-slice-aggregate-check-short-2 c = search needs
-
-slice-aggregate-check-short-3 : tie.Need-slice-aggregate-check-short-3
-slice-aggregate-check-short-3 c = search needs
-
-check-short-requires : tie.Need-check-short-requires
-check-short-requires c κs = search needs
-
 put-outcome-requires : tie.Need-put-outcome-requires
 put-outcome-requires c κs = (can-list listingTables largestTolerance (c .before .before .before .before .before .before .before .before .before .before .before .before .before .args .file .now) (c .before .before .before .before .before .before .before .before .before .before .before .before .before .args .verdicts .now) (c .before .before .before .before .before .before .before .before .before .before .before .before .before .args .findings .now) (answerOf (c .before .before .before .before .before .check-short .result)) _ _ (c .before .before .before .before .before .check-short .ensures), search needs)
-
-same-length : tie.Need-same-length
-same-length c = search needs
 
 returns : tie.Need-returns
 returns c = rw (is-listed listingTables largestTolerance (c .before .before .before .before .before .before .before .before .before .before .before .before .before .before .before .before .args .file .now) (c .before .before .before .before .before .before .before .before .before .before .before .before .before .before .before .before .args .verdicts .now) (c .before .before .before .before .before .before .before .before .before .before .before .before .before .before .before .before .args .findings .now) (answerOf (c .before .before .before .before .before .before .before .before .check-short .result)) _ _ (c .before .before .before .before .before .before .before .before .check-short .ensures) (search needs) (search needs)) at (c .before .before .put-outcome .ensures)
@@ -32,10 +17,5 @@ pub put-checked-spec : {M : Type 1} → statement M
 put-checked-spec =
     tie.close
     (tie.spec
-    slice-aggregate-check-short
-    slice-aggregate-check-short-2
-    slice-aggregate-check-short-3
-    check-short-requires
-    put-outcome-requires
-    same-length
+    (λ c. search needs) (λ c. search needs) (λ c. search needs) (λ c κs. search needs) put-outcome-requires (λ c. search needs)
     returns)

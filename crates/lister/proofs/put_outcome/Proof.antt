@@ -10,23 +10,11 @@ use borrow.Author.Needs.{needs}
 use Rattle.lister.proofs.put_outcome.Statement.{statement}
 use Rattle.lister.proofs.put_outcome.Tie as tie
 
-put-answer-requires : tie.Need-put-answer-requires
-put-answer-requires c κs = search needs
-
-passes-requires : tie.Need-passes-requires
-passes-requires c κs = search needs
-
 put-records-requires : tie.Need-put-records-requires
 put-records-requires c κs = (c .before .before .before .before .before .before .before .before .before .before .before .pre .0 (sym (c .before .before .passes .ensures) ∙ c .before .if1 .taken), omega (arith, c .before .before .before .before .before .before .before .before .before .before .before .pre .1, c .before .before .before .before .before .put-answer .ensures .1))
 
-same-length : tie.Need-same-length
-same-length c = search needs
-
 returns : tie.Need-returns
 returns c = passed-put (answerOf (c .before .before .before .before .before .before .before .before .before .before .before .before .before .before .args .answer)) (linesFrom (c .before .before .before .before .before .before .before .before .before .before .before .before .before .before .args .verdicts .now) (c .before .before .before .before .before .before .before .before .before .before .before .before .before .before .args .findings .now) 0 (recordsIn (lines (c .before .before .before .before .before .before .before .before .before .before .before .before .before .before .args .file .now)))) (sym (c .before .before .before .before .before .passes .ensures) ∙ c .before .before .before .before .if1 .taken) (c .before .before .before .before .before .before .before .before .put-answer .ensures .0) (c .before .before .put-records .ensures)
-
-same-length-2 : tie.Need-same-length-2
-same-length-2 c = search needs
 
 returns-2 : tie.Need-returns-2
 returns-2 c = refused-put (answerOf (c .before .before .before .before .before .before .before .before .before .before .args .answer)) (linesFrom (c .before .before .before .before .before .before .before .before .before .before .args .verdicts .now) (c .before .before .before .before .before .before .before .before .before .before .args .findings .now) 0 (recordsIn (lines (c .before .before .before .before .before .before .before .before .before .before .args .file .now)))) (sym (c .before .passes .ensures) ∙ c .if1 .left) (c .before .before .before .before .put-answer .ensures .0)
@@ -35,10 +23,4 @@ pub put-outcome-spec : {M : Type 1} → statement M
 put-outcome-spec =
     tie.close
     (tie.spec
-    put-answer-requires
-    passes-requires
-    put-records-requires
-    same-length
-    returns
-    same-length-2
-    returns-2)
+    (λ c κs. search needs) (λ c κs. search needs) put-records-requires (λ c. search needs) returns (λ c. search needs) returns-2)

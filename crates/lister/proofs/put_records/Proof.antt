@@ -51,14 +51,4 @@ pub put-records-spec : {M : Type 1} → statement M
 put-records-spec =
     tie.close
     (tie.spec
-    Inv-loop
-    μ-loop
-    loop-holds
-    put-line-requires
-    text-end-requires
-    add-at
-    add-number
-    loop-less
-    loop-again
-    same-length
-    returns)
+    Inv-loop μ-loop loop-holds put-line-requires text-end-requires add-at add-number loop-less loop-again same-length returns)

@@ -46,13 +46,4 @@ pub zeros-spec : {M : Type 1} → statement M
 zeros-spec =
     tie.close
     (tie.spec
-    Inv-loop
-    μ-loop
-    loop-holds
-    add-loop
-    shared-slice-read-if1
-    returns
-    add-i
-    loop-less
-    loop-again
-    returns-2)
+    Inv-loop μ-loop loop-holds add-loop shared-slice-read-if1 returns add-i loop-less loop-again returns-2)

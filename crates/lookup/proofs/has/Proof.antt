@@ -6,12 +6,6 @@ use Rattle.lookup.proofs.Laws.{indexed-length, empty-slot, hit, small-e
 use Rattle.lookup.proofs.has.Statement.{statement}
 use Rattle.lookup.proofs.has.Tie as tie
 
-slot-requires : tie.Need-slot-requires
-slot-requires c κs = search needs
-
-mul-n : tie.Need-mul-n
-mul-n c = search needs
-
 shared-slice-read-n : tie.Need-shared-slice-read-n
 shared-slice-read-n c =
     let s = c .before .before .before .before .before in
@@ -25,9 +19,6 @@ returns c =
     let s = c .before .before .before .before .before .before in
     empty-slot (length (s .args .code .now)) (s .args .table .now) (s .args .slots .now) (s .pre .1)
     (s .args .code .now) (c .before .before .slot .result) (c .before .before .slot .ensures .0) (c .if1 .taken)
-
-sub-k : tie.Need-sub-k
-sub-k c = search needs
 
 mul-if2 : tie.Need-mul-if2
 mul-if2 c =
@@ -43,46 +34,16 @@ add-if2 c =
     let known = c .before .shared-slice-known4 .given at in
     omega (arith, small-end (length (s .args .code .now)) (getD (s .args .slots .now) at 0) (s .pre .0 .1) (omega arith))
 
-search-requires : tie.Need-search-requires
-search-requires c κs = search needs
-
-returns-2 : tie.Need-returns-2
-returns-2 c = search needs
-
-entry-requires : tie.Need-entry-requires
-entry-requires c κs = search needs
-
-same-requires : tie.Need-same-requires
-same-requires c κs = search needs
-
 returns-3 : tie.Need-returns-3
 returns-3 c =
     let g = c .before .before .before .before .before .before .before .before .before .before .args in
     hit (length (g .code .now)) (g .table .now) (g .code .now) _ _ _ (c .before .before .entry .ensures .0) (c .before .same .ensures)
     (search needs) (c .before .before .before .if2 .left) (c .if3 .taken)
 
-search-requires-2 : tie.Need-search-requires-2
-search-requires-2 c κs = search needs
-
-returns-4 : tie.Need-returns-4
-returns-4 c = search needs
-
 pub has-spec : {M : Type 1} → statement M
 has-spec =
     tie.close
     (tie.spec
-    slot-requires
-    mul-n
-    shared-slice-read-n
-    cast-n
-    returns
-    sub-k
-    mul-if2
-    add-if2
-    search-requires
-    returns-2
-    entry-requires
-    same-requires
-    returns-3
-    search-requires-2
-    returns-4)
+    (λ c κs. search needs) (λ c. search needs) shared-slice-read-n cast-n returns (λ c. search needs) mul-if2 add-if2
+    (λ c κs. search needs) (λ c. search needs) (λ c κs. search needs) (λ c κs. search needs) returns-3 (λ c κs. search needs)
+    (λ c. search needs))

@@ -15,12 +15,6 @@ Inv-loop table size slots₀ count k₀ slots k = (k ≤ count) × (count ≤ mo
 abbrev μ-loop : tie.MeasureT-loop
 μ-loop table size slots₀ count k₀ slots k = count - k
 
-clear-requires : tie.Need-clear-requires Inv-loop μ-loop
-clear-requires c κs = search needs
-
-div-count : tie.Need-div-count Inv-loop μ-loop
-div-count c = search needs
-
 loop-holds : tie.Need-loop-holds Inv-loop μ-loop
 loop-holds c =
     let s = c .before .before .before .before .before .before in
@@ -31,27 +25,6 @@ entry-requires : tie.Need-entry-requires Inv-loop μ-loop
 entry-requires c κs =
     let g = c .before .before .before .before .before .before .before .before .args in
     within (g .size) (g .table .now) (c .before .loop .k) (c .loop-test .taken)
-
-slot-requires : tie.Need-slot-requires Inv-loop μ-loop
-slot-requires c κs = search needs
-
-add-slots : tie.Need-add-slots Inv-loop μ-loop
-add-slots c = search needs
-
-cast-slots : tie.Need-cast-slots Inv-loop μ-loop
-cast-slots c = search needs
-
-mul-slots : tie.Need-mul-slots Inv-loop μ-loop
-mul-slots c = search needs
-
-slice-write-slots : tie.Need-slice-write-slots Inv-loop μ-loop
-slice-write-slots c = search needs
-
-add-k : tie.Need-add-k Inv-loop μ-loop
-add-k c = search needs
-
-loop-less : tie.Need-loop-less Inv-loop μ-loop
-loop-less c = search needs
 
 loop-again : tie.Need-loop-again Inv-loop μ-loop
 loop-again c =
@@ -74,19 +47,6 @@ pub index-spec : {M : Type 1} → statement M
 index-spec =
     tie.close
     (tie.spec
-    Inv-loop
-    μ-loop
-    clear-requires
-    div-count
-    loop-holds
-    entry-requires
-    slot-requires
-    add-slots
-    cast-slots
-    mul-slots
-    slice-write-slots
-    add-k
-    loop-less
-    loop-again
-    same-length
-    returns)
+    Inv-loop μ-loop (λ c κs. search needs) (λ c. search needs) loop-holds entry-requires (λ c κs. search needs)
+    (λ c. search needs) (λ c. search needs) (λ c. search needs) (λ c. search needs) (λ c. search needs) (λ c. search needs)
+    loop-again same-length returns)

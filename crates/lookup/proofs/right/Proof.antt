@@ -4,15 +4,9 @@ use Rattle.rules.specs.Tables.{rightTable}
 use Rattle.lookup.proofs.right.Statement.{statement}
 use Rattle.lookup.proofs.right.Tie as tie
 
-rem-result : tie.Need-rem-result
-rem-result c = search needs
-
-div-result : tie.Need-div-result
-div-result c = search needs
-
 returns : tie.Need-returns
 unfolding rightTable
 returns c = search needs
 
 pub right-spec : {M : Type 1} → statement M
-right-spec = tie.close (tie.spec rem-result div-result returns)
+right-spec = tie.close (tie.spec (λ c. search needs) (λ c. search needs) returns)

@@ -14,9 +14,6 @@ Inv-loop table code size count i₀ i = (i ≤ count) × RestDecides (length cod
 abbrev μ-loop : tie.MeasureT-loop
 μ-loop table code size count i₀ i = count - i
 
-div-count : tie.Need-div-count Inv-loop μ-loop
-div-count c = search needs
-
 loop-holds : tie.Need-loop-holds Inv-loop μ-loop
 loop-holds c =
     let g = c .before .before .args in
@@ -26,9 +23,6 @@ entry-requires : tie.Need-entry-requires Inv-loop μ-loop
 entry-requires c κs =
     let g = c .before .before .before .before .args in
     within (length (g .code .now)) (g .table .now) (c .before .loop .i) (c .loop-test .taken)
-
-same-requires : tie.Need-same-requires Inv-loop μ-loop
-same-requires c κs = search needs
 
 returns : tie.Need-returns Inv-loop μ-loop
 returns c =
@@ -42,9 +36,6 @@ add-i : tie.Need-add-i Inv-loop μ-loop
 add-i c =
     let g = c .before .before .before .before .before .before .before .args in
     omega (arith, div-le-self (length (g .table .now)) (length (g .code .now)))
-
-loop-less : tie.Need-loop-less Inv-loop μ-loop
-loop-less c = search needs
 
 loop-again : tie.Need-loop-again Inv-loop μ-loop
 loop-again c =
@@ -65,14 +56,5 @@ pub search-spec : {M : Type 1} → statement M
 search-spec =
     tie.close
     (tie.spec
-    Inv-loop
-    μ-loop
-    div-count
-    loop-holds
-    entry-requires
-    same-requires
-    returns
-    add-i
-    loop-less
-    loop-again
-    returns-2)
+    Inv-loop μ-loop (λ c. search needs) loop-holds entry-requires (λ c κs. search needs) returns add-i (λ c. search needs)
+    loop-again returns-2)

@@ -27,12 +27,6 @@ its c = c .before .confirmed .ensures ∙ ap (λ (r : Bytes). shapeOf (rowFor (t
 end : (c : tie.After-size Inv-loop μ-loop) → c .before .before .before .before .before .before .before .before .before .before .before .loop .s .at + c .size .result + 2 ≤ length (c .before .before .before .before .before .before .before .before .before .before .before .before .before .before .before .before .args .file .now)
 end c = rw (c .size .ensures) (ends (c .before .before .before .before .before .before .before .before .before .before .before .before .before .before .before .before .args .file .now) (c .before .before .before .before .before .before .before .before .before .before .before .before .before .before .before .before .args .out .now) (c .before .before .before .before .before .before .before .before .before .before .before .loop .out) (c .before .before .before .before .before .before .before .before .before .before .before .loop .s) (c .before .before .before .before .before .before .before .before .before .before .before .loop .inv) (c .before .before .before .before .before .before .before .before .before .if1 .taken) (c .before .confirmed .result) (its c))
 
-table-requires : tie.Need-table-requires Inv-loop μ-loop
-table-requires c κs = search needs
-
-zero-requires : tie.Need-zero-requires Inv-loop μ-loop
-zero-requires c κs = search needs
-
 loop-holds : tie.Need-loop-holds Inv-loop μ-loop
 loop-holds c =
     let z = c .zero in
@@ -53,24 +47,6 @@ add-hint-2 c = omega (arith, three-bytes (c .before .before .before .before .bef
 shared-slice-read-hint-3 : tie.Need-shared-slice-read-hint-3 Inv-loop μ-loop
 shared-slice-read-hint-3 c = omega (arith, three-bytes (c .before .before .before .before .before .before .before .before .before .before .before .args .file .now) (c .before .before .before .before .before .before .before .before .before .before .before .args .out .now) (c .before .before .before .before .before .before .loop .out) (c .before .before .before .before .before .before .loop .s) (c .before .before .before .before .before .before .loop .inv) (c .before .before .before .before .if1 .taken))
 
-hint-requires : tie.Need-hint-requires Inv-loop μ-loop
-hint-requires c κs = search needs
-
-mul-confirmed : tie.Need-mul-confirmed Inv-loop μ-loop
-mul-confirmed c = search needs
-
-array-copy-out-confirmed : tie.Need-array-copy-out-confirmed Inv-loop μ-loop
-array-copy-out-confirmed c = search needs
-
-sub-confirmed : tie.Need-sub-confirmed Inv-loop μ-loop
-sub-confirmed c = search needs
-
-part-confirmed-start : tie.Need-part-confirmed-start Inv-loop μ-loop
-part-confirmed-start c = search needs
-
-part-confirmed-end : tie.Need-part-confirmed-end Inv-loop μ-loop
-part-confirmed-end c = search needs
-
 confirmed-requires : tie.Need-confirmed-requires Inv-loop μ-loop
 confirmed-requires c κs =
     let g = c .before .before .before .before .before .before .before .before .before .before .before .before .before .before in
@@ -79,9 +55,6 @@ confirmed-requires c κs =
       rw (to-end (g .args .file .now) (l .s .at), length-drop (l .s .at) (g .args .file .now)) (omega (arith, three)),
       λ t e. hinted (c .before .before .before .before .before .before .before .before .before .before .before .table .result) (c .before .before .before .before .before .before .before .before .before .before .before .table .ensures) t (c .before .before .hint .result) (in-table (c .before .before .before .before .before .before .before .before .before .before .before .table .result) (c .before .before .before .before .before .before .before .before .before .before .before .table .ensures) (c .before .before .hint .result) (c .before .before .hint .ensures)) _ e,
     )
-
-size-requires : tie.Need-size-requires Inv-loop μ-loop
-size-requires c κs = search needs
 
 add-end : tie.Need-add-end Inv-loop μ-loop
 add-end c = omega (arith, end c)
@@ -146,35 +119,8 @@ pub fill-spec : {M : Type 1} → statement M
 fill-spec =
     tie.close
     (tie.spec
-    Inv-loop
-    μ-loop
-    table-requires
-    zero-requires
-    loop-holds
-    shared-slice-read-hint
-    add-hint
-    shared-slice-read-hint-2
-    add-hint-2
-    shared-slice-read-hint-3
-    hint-requires
-    mul-confirmed
-    array-copy-out-confirmed
-    sub-confirmed
-    part-confirmed-start
-    part-confirmed-end
-    confirmed-requires
-    size-requires
-    add-end
-    add-end-2
-    sub-number-line
-    part-number-line-start
-    part-number-line-end
-    sub-number-line-2
-    part-number-line-start-2
-    part-number-line-end-2
-    number-line-requires
-    after-record-requires
-    loop-less
-    loop-again
-    same-length
-    returns)
+    Inv-loop μ-loop (λ c κs. search needs) (λ c κs. search needs) loop-holds shared-slice-read-hint add-hint
+    shared-slice-read-hint-2 add-hint-2 shared-slice-read-hint-3 (λ c κs. search needs) (λ c. search needs) (λ c. search needs)
+    (λ c. search needs) (λ c. search needs) (λ c. search needs) confirmed-requires (λ c κs. search needs) add-end add-end-2
+    sub-number-line part-number-line-start part-number-line-end sub-number-line-2 part-number-line-start-2 part-number-line-end-2
+    number-line-requires after-record-requires loop-less loop-again same-length returns)

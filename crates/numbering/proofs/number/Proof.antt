@@ -6,12 +6,6 @@ use borrow.Author.Needs.{needs}
 use Rattle.numbering.proofs.number.Statement.{statement}
 use Rattle.numbering.proofs.number.Tie as tie
 
-check-places-requires : tie.Need-check-places-requires
-check-places-requires c κs = search needs
-
-passes-requires : tie.Need-passes-requires
-passes-requires c κs = search needs
-
 returns : tie.Need-returns
 returns c = refused-so (c .before .before .before .before .before .args .file .now) (c .before .before .before .before .before .args .out .now) _ (c .before .before .check-places .ensures) (sym (c .before .passes .ensures) ∙ not-true _ (c .if1 .taken))
 
@@ -21,9 +15,6 @@ returns-2 c = short-so (c .before .before .before .before .before .before .args 
 fill-requires : tie.Need-fill-requires
 fill-requires c κs = (sized (c .before .before .before .before .before .before .before .args .file .now) (c .before .before .before .before .before .before .before .args .out .now) _ (c .before .before .before .before .check-places .ensures) (sym (c .before .before .before .passes .ensures) ∙ not-false _ (c .before .before .if1 .left)), c .before .if2 .left)
 
-same-length : tie.Need-same-length
-same-length c = search needs
-
 returns-3 : tie.Need-returns-3
 returns-3 c = filled-so (c .before .before .before .before .before .before .before .before .before .before .args .file .now) (c .before .before .before .before .before .before .before .before .before .before .args .out .now) _ (c .before .before .before .before .before .before .before .check-places .ensures) (sym (c .before .before .before .before .before .before .passes .ensures) ∙ not-false _ (c .before .before .before .before .before .if1 .left)) (c .before .before .before .before .if2 .left) _ (c .before .before .fill .ensures)
 
@@ -31,10 +22,4 @@ pub number-spec : {M : Type 1} → statement M
 number-spec =
     tie.close
     (tie.spec
-    check-places-requires
-    passes-requires
-    returns
-    returns-2
-    fill-requires
-    same-length
-    returns-3)
+    (λ c κs. search needs) (λ c κs. search needs) returns returns-2 fill-requires (λ c. search needs) returns-3)

@@ -6,15 +6,6 @@ use Rattle.numbering.proofs.Laws.{line-over}
 use Rattle.numbering.proofs.number_line.Statement.{statement}
 use Rattle.numbering.proofs.number_line.Tie as tie
 
-copy-requires : tie.Need-copy-requires
-copy-requires c κs = search needs
-
-put-requires : tie.Need-put-requires
-put-requires c κs = search needs
-
-same-length : tie.Need-same-length
-same-length c = search needs
-
 returns : tie.Need-returns
 returns c =
     let g = c .before .before .before .before .before .before .before .before .before .before .args in
@@ -22,4 +13,4 @@ returns c =
     (c .before .before .before .before .before .before .before .before .before .before .pre .0) (c .before .before .before .before .before .before .copy .ensures .1) (c .before .before .put .ensures)
 
 pub number-line-spec : {M : Type 1} → statement M
-number-line-spec = tie.close (tie.spec copy-requires put-requires same-length returns)
+number-line-spec = tie.close (tie.spec (λ c κs. search needs) (λ c κs. search needs) (λ c. search needs) returns)

@@ -8,15 +8,6 @@ use Rattle.numbers.proofs.Laws.{compared}
 use Rattle.numbers.proofs.pair_stands.Statement.{statement}
 use Rattle.numbers.proofs.pair_stands.Tie as tie
 
-stands-requires : tie.Need-stands-requires
-stands-requires c κs = search needs
-
-add-stands : tie.Need-add-stands
-add-stands c = search needs
-
-stands-requires-2 : tie.Need-stands-requires-2
-stands-requires-2 c κs = search needs
-
 returns : tie.Need-returns
 unfolding pair
 returns c =
@@ -24,4 +15,4 @@ returns c =
     compared (g .record .now) (g .start) 8 (decimal 8 (g .m)) (length-decimal 8 (g .m)) (decimal 8 (g .r)) 8 (search needs) (search needs) _ _ (c .before .stands .ensures) (c .stands2 .ensures)
 
 pub pair-stands-spec : {M : Type 1} → statement M
-pair-stands-spec = tie.close (tie.spec stands-requires add-stands stands-requires-2 returns)
+pair-stands-spec = tie.close (tie.spec (λ c κs. search needs) (λ c. search needs) (λ c κs. search needs) returns)

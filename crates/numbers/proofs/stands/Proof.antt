@@ -5,14 +5,8 @@ use borrow.Author.Needs.{needs}
 use Rattle.numbers.proofs.stands.Statement.{statement}
 use Rattle.numbers.proofs.stands.Tie as tie
 
-field-requires : tie.Need-field-requires
-field-requires c κs = search needs
-
-is-decimal-requires : tie.Need-is-decimal-requires
-is-decimal-requires c κs = search needs
-
 returns : tie.Need-returns
 returns c = let f = c .before .field .ensures in c .is-decimal .ensures ∙ rw (f .1, f .0)
 
 pub stands-spec : {M : Type 1} → statement M
-stands-spec = tie.close (tie.spec field-requires is-decimal-requires returns)
+stands-spec = tie.close (tie.spec (λ c κs. search needs) (λ c κs. search needs) returns)

@@ -5,14 +5,8 @@ use borrow.Author.Needs.{needs}
 use Rattle.numbers.proofs.word_stands.Statement.{statement}
 use Rattle.numbers.proofs.word_stands.Tie as tie
 
-field-requires : tie.Need-field-requires
-field-requires c κs = search needs
-
-is-word-requires : tie.Need-is-word-requires
-is-word-requires c κs = search needs
-
 returns : tie.Need-returns
 returns c = let f = c .before .field .ensures in c .is-word .ensures ∙ rw (f .0)
 
 pub word-stands-spec : {M : Type 1} → statement M
-word-stands-spec = tie.close (tie.spec field-requires is-word-requires returns)
+word-stands-spec = tie.close (tie.spec (λ c κs. search needs) (λ c κs. search needs) returns)

@@ -8,15 +8,6 @@ use borrow.Author.Needs.{needs}
 use Rattle.numbers.proofs.words_stand.Statement.{statement}
 use Rattle.numbers.proofs.words_stand.Tie as tie
 
-word-stands-requires : tie.Need-word-stands-requires
-word-stands-requires c κs = search needs
-
-add-word-stands : tie.Need-add-word-stands
-add-word-stands c = search needs
-
-word-stands-requires-2 : tie.Need-word-stands-requires-2
-word-stands-requires-2 c κs = search needs
-
 returns : tie.Need-returns
 unfolding words
 returns c =
@@ -25,4 +16,4 @@ returns c =
 
 pub words-stand-spec : {M : Type 1} → statement M
 words-stand-spec =
-    tie.close (tie.spec word-stands-requires add-word-stands word-stands-requires-2 returns)
+    tie.close (tie.spec (λ c κs. search needs) (λ c. search needs) (λ c κs. search needs) returns)

@@ -8,18 +8,6 @@ use Rattle.numbers.proofs.Laws.{written}
 use Rattle.numbers.proofs.write_pair.Statement.{statement}
 use Rattle.numbers.proofs.write_pair.Tie as tie
 
-write-requires : tie.Need-write-requires
-write-requires c κs = search needs
-
-add-write : tie.Need-add-write
-add-write c = search needs
-
-write-requires-2 : tie.Need-write-requires-2
-write-requires-2 c κs = search needs
-
-same-length : tie.Need-same-length
-same-length c = search needs
-
 returns : tie.Need-returns
 unfolding pair
 returns c =
@@ -30,4 +18,4 @@ returns c =
 
 pub write-pair-spec : {M : Type 1} → statement M
 write-pair-spec =
-    tie.close (tie.spec write-requires add-write write-requires-2 same-length returns)
+    tie.close (tie.spec (λ c κs. search needs) (λ c. search needs) (λ c κs. search needs) (λ c. search needs) returns)

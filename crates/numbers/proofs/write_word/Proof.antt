@@ -11,27 +11,6 @@ use borrow.Author.Needs.{needs}
 use Rattle.numbers.proofs.write_word.Statement.{statement}
 use Rattle.numbers.proofs.write_word.Tie as tie
 
-sub-a : tie.Need-sub-a
-sub-a c = search needs
-
-add-e : tie.Need-add-e
-add-e c = search needs
-
-sub-store-eight : tie.Need-sub-store-eight
-sub-store-eight c = search needs
-
-part-store-eight-start : tie.Need-part-store-eight-start
-part-store-eight-start c = search needs
-
-part-store-eight-end : tie.Need-part-store-eight-end
-part-store-eight-end c = search needs
-
-store-eight-requires : tie.Need-store-eight-requires
-store-eight-requires c κs = search needs
-
-same-length : tie.Need-same-length
-same-length c = search needs
-
 returns : tie.Need-returns
 returns c =
     let g = c .before .before .before .before .before .args in
@@ -43,11 +22,5 @@ pub write-word-spec : {M : Type 1} → statement M
 write-word-spec =
     tie.close
     (tie.spec
-    sub-a
-    add-e
-    sub-store-eight
-    part-store-eight-start
-    part-store-eight-end
-    store-eight-requires
-    same-length
-    returns)
+    (λ c. search needs) (λ c. search needs) (λ c. search needs) (λ c. search needs) (λ c. search needs) (λ c κs. search needs)
+    (λ c. search needs) returns)

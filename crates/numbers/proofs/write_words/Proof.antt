@@ -8,18 +8,6 @@ use borrow.Author.Needs.{needs}
 use Rattle.numbers.proofs.write_words.Statement.{statement}
 use Rattle.numbers.proofs.write_words.Tie as tie
 
-write-word-requires : tie.Need-write-word-requires
-write-word-requires c κs = search needs
-
-add-write-word : tie.Need-add-write-word
-add-write-word c = search needs
-
-write-word-requires-2 : tie.Need-write-word-requires-2
-write-word-requires-2 c κs = search needs
-
-same-length : tie.Need-same-length
-same-length c = search needs
-
 returns : tie.Need-returns
 unfolding words
 returns c =
@@ -31,4 +19,4 @@ returns c =
 pub write-words-spec : {M : Type 1} → statement M
 write-words-spec =
     tie.close
-    (tie.spec write-word-requires add-write-word write-word-requires-2 same-length returns)
+    (tie.spec (λ c κs. search needs) (λ c. search needs) (λ c κs. search needs) (λ c. search needs) returns)

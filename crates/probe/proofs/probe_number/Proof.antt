@@ -5,17 +5,8 @@ use borrow.Author.Needs.{needs}
 use Rattle.probe.proofs.probe_number.Statement.{statement}
 use Rattle.probe.proofs.probe_number.Tie as tie
 
-number-requires : tie.Need-number-requires
-number-requires c κs = search needs
-
-packed-requires : tie.Need-packed-requires
-packed-requires c κs = search needs
-
-same-length : tie.Need-same-length
-same-length c = search needs
-
 returns : tie.Need-returns
 returns c = (exact-so (c .packed .ensures) (c .before .before .before .number .ensures .0) (near _ _), c .before .before .before .number .ensures .1)
 
 pub probe-number-spec : {M : Type 1} → statement M
-probe-number-spec = tie.close (tie.spec number-requires packed-requires same-length returns)
+probe-number-spec = tie.close (tie.spec (λ c κs. search needs) (λ c κs. search needs) (λ c. search needs) returns)

@@ -5,14 +5,8 @@ use borrow.Author.Needs.{needs}
 use Rattle.probe.proofs.probe_structure.Statement.{statement}
 use Rattle.probe.proofs.probe_structure.Tie as tie
 
-check-requires : tie.Need-check-requires
-check-requires c κs = search needs
-
-packed-requires : tie.Need-packed-requires
-packed-requires c κs = search needs
-
 returns : tie.Need-returns
 returns c = exact-so (c .packed .ensures) (c .before .check .ensures) (nearby-22 _ .0)
 
 pub probe-structure-spec : {M : Type 1} → statement M
-probe-structure-spec = tie.close (tie.spec check-requires packed-requires returns)
+probe-structure-spec = tie.close (tie.spec (λ c κs. search needs) (λ c κs. search needs) returns)

@@ -11,44 +11,14 @@ writer-requires c κs = (c .before .before .pre .0, writer-here (c .before .befo
 version-requires : tie.Need-version-requires
 version-requires c κs = ewt-here (c .before .before .args .row) (c .before .before .args .record .now) (c .before .before .pre .1 .0 .0) (c .before .before .pre .1 .1) (c .match .keys2)
 
-with-ewt-requires : tie.Need-with-ewt-requires
-with-ewt-requires c κs = search needs
-
 version-requires-2 : tie.Need-version-requires-2
 version-requires-2 c κs = ver-here (c .before .before .args .row) (c .before .before .args .record .now) (c .before .before .pre .1 .0 .0) (c .before .before .pre .1 .1) (c .match .keys3)
-
-with-ver-requires : tie.Need-with-ver-requires
-with-ver-requires c κs = search needs
 
 performer-requires : tie.Need-performer-requires
 performer-requires c κs = per-here (c .before .before .args .row) (c .before .before .args .record .now) (c .before .before .pre .1 .0 .0) (c .before .before .pre .1 .1) (c .match .keys4)
 
-with-other-requires : tie.Need-with-other-requires
-with-other-requires c κs = search needs
-
 recording-requires : tie.Need-recording-requires
 recording-requires c κs = rec-here (c .before .before .args .row) (c .before .before .args .record .now) (c .before .before .pre .1 .0 .0) (c .before .before .pre .1 .1) (c .match .keys5)
-
-with-other-requires-2 : tie.Need-with-other-requires-2
-with-other-requires-2 c κs = search needs
-
-nothing-requires : tie.Need-nothing-requires
-nothing-requires c κs = search needs
-
-with-instrument-requires : tie.Need-with-instrument-requires
-with-instrument-requires c κs = search needs
-
-misplaced-requires : tie.Need-misplaced-requires
-misplaced-requires c κs = search needs
-
-with-other-requires-3 : tie.Need-with-other-requires-3
-with-other-requires-3 c κs = search needs
-
-nothing-requires-2 : tie.Need-nothing-requires-2
-nothing-requires-2 c κs = search needs
-
-with-other-requires-4 : tie.Need-with-other-requires-4
-with-other-requires-4 c κs = search needs
 
 returns : tie.Need-returns
 returns c t ds k = c .writer .ensures t ds k (c .before .before .before .pre .1)
@@ -93,26 +63,7 @@ pub other-spec : {M : Type 1} → statement M
 other-spec =
     tie.close
     (tie.spec
-    writer-requires
-    version-requires
-    with-ewt-requires
-    version-requires-2
-    with-ver-requires
-    performer-requires
-    with-other-requires
-    recording-requires
-    with-other-requires-2
-    nothing-requires
-    with-instrument-requires
-    misplaced-requires
-    with-other-requires-3
-    nothing-requires-2
-    with-other-requires-4
-    returns
-    returns-2
-    returns-3
-    returns-4
-    returns-5
-    returns-6
-    returns-7
-    returns-8)
+    writer-requires version-requires (λ c κs. search needs) version-requires-2 (λ c κs. search needs) performer-requires
+    (λ c κs. search needs) recording-requires (λ c κs. search needs) (λ c κs. search needs) (λ c κs. search needs)
+    (λ c κs. search needs) (λ c κs. search needs) (λ c κs. search needs) (λ c κs. search needs) returns returns-2 returns-3
+    returns-4 returns-5 returns-6 returns-7 returns-8)

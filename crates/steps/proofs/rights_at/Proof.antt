@@ -5,24 +5,6 @@ use Rattle.rules.specs.Values.{shareOf}
 use Rattle.steps.proofs.rights_at.Statement.{statement}
 use Rattle.steps.proofs.rights_at.Tie as tie
 
-field-requires : tie.Need-field-requires
-field-requires c κs = search needs
-
-of-requires : tie.Need-of-requires
-of-requires c κs = search needs
-
-field-requires-2 : tie.Need-field-requires-2
-field-requires-2 c κs = search needs
-
-of-requires-2 : tie.Need-of-requires-2
-of-requires-2 c κs = search needs
-
-field-requires-3 : tie.Need-field-requires-3
-field-requires-3 c κs = search needs
-
-of-requires-3 : tie.Need-of-requires-3
-of-requires-3 c κs = search needs
-
 returns : tie.Need-returns
 returns c = (
   rw (c .before .before .before .before .of .ensures .0 ∙ ap shareOf (c .before .before .before .before .before .field .ensures .0), c .before .before .of2 .ensures .0 ∙ ap shareOf (c .before .before .before .field2 .ensures .0), c .of3 .ensures .0 ∙ ap shareOf (c .before .field3 .ensures .0)),
@@ -30,4 +12,4 @@ returns c = (
 )
 
 pub rights-at-spec : {M : Type 1} → statement M
-rights-at-spec = tie.close (tie.spec field-requires of-requires field-requires-2 of-requires-2 field-requires-3 of-requires-3 returns)
+rights-at-spec = tie.close (tie.spec (λ c κs. search needs) (λ c κs. search needs) (λ c κs. search needs) (λ c κs. search needs) (λ c κs. search needs) (λ c κs. search needs) returns)

@@ -3,18 +3,6 @@ use borrow.Author.Needs.{needs}
 use Rattle.steps.proofs.writer.Statement.{statement}
 use Rattle.steps.proofs.writer.Tie as tie
 
-judge-requires : tie.Need-judge-requires
-judge-requires c κs = search needs
-
-designation-in-force-requires : tie.Need-designation-in-force-requires
-designation-in-force-requires c κs = search needs
-
-rights-at-requires : tie.Need-rights-at-requires
-rights-at-requires c κs = search needs
-
-with-writer-requires : tie.Need-with-writer-requires
-with-writer-requires c κs = search needs
-
 returns : tie.Need-returns
 returns c t ds k d =
     record {
@@ -23,4 +11,4 @@ returns c t ds k d =
     }
 
 pub writer-spec : {M : Type 1} → statement M
-writer-spec = tie.close (tie.spec judge-requires designation-in-force-requires rights-at-requires with-writer-requires returns)
+writer-spec = tie.close (tie.spec (λ c κs. search needs) (λ c κs. search needs) (λ c κs. search needs) (λ c κs. search needs) returns)

@@ -17,24 +17,6 @@ use Rattle.structure.proofs.answer.Tie as tie
 returns : tie.Need-returns
 returns c = whole-long (c .before .before .args .file .now) (c .before .before .args .asked) (c .if1 .taken)
 
-text-end-requires : tie.Need-text-end-requires
-text-end-requires c κs = search needs
-
-sub-version : tie.Need-sub-version
-sub-version c = search needs
-
-part-version-start : tie.Need-part-version-start
-part-version-start c = search needs
-
-part-version-end : tie.Need-part-version-end
-part-version-end c = search needs
-
-version-requires : tie.Need-version-requires
-version-requires c κs = search needs
-
-walk-requires : tie.Need-walk-requires
-walk-requires c κs = search needs
-
 scan-requires : tie.Need-scan-requires
 scan-requires c κs = (c .walk .ensures .bounded, c .before .before .before .before .if1 .left)
 
@@ -51,12 +33,5 @@ pub answer-spec : {M : Type 1} → statement M
 answer-spec =
     tie.close
     (tie.spec
-    returns
-    text-end-requires
-    sub-version
-    part-version-start
-    part-version-end
-    version-requires
-    walk-requires
-    scan-requires
-    returns-2)
+    returns (λ c κs. search needs) (λ c. search needs) (λ c. search needs) (λ c. search needs) (λ c κs. search needs)
+    (λ c κs. search needs) scan-requires returns-2)

@@ -5,27 +5,6 @@ use Rattle.structure.proofs.Faults.{end-met, end-place, end-number, end
 use Rattle.structure.proofs.ended.Statement.{statement}
 use Rattle.structure.proofs.ended.Tie as tie
 
-sub-index : tie.Need-sub-index
-sub-index c = search needs
-
-index-requires : tie.Need-index-requires
-index-requires c κs = search needs
-
-index-requires-2 : tie.Need-index-requires-2
-index-requires-2 c κs = search needs
-
-sub-index-2 : tie.Need-sub-index-2
-sub-index-2 c = search needs
-
-index-requires-3 : tie.Need-index-requires-3
-index-requires-3 c κs = search needs
-
-sub-index-3 : tie.Need-sub-index-3
-sub-index-3 c = search needs
-
-index-requires-4 : tie.Need-index-requires-4
-index-requires-4 c κs = search needs
-
 returns : tie.Need-returns
 returns c =
     let g = c .before .before .before .before .before .args in
@@ -60,16 +39,5 @@ pub ended-spec : {M : Type 1} → statement M
 ended-spec =
     tie.close
     (tie.spec
-    sub-index
-    index-requires
-    index-requires-2
-    sub-index-2
-    index-requires-3
-    sub-index-3
-    index-requires-4
-    returns
-    returns-2
-    returns-3
-    returns-4
-    returns-5
-    returns-6)
+    (λ c. search needs) (λ c κs. search needs) (λ c κs. search needs) (λ c. search needs) (λ c κs. search needs)
+    (λ c. search needs) (λ c κs. search needs) returns returns-2 returns-3 returns-4 returns-5 returns-6)

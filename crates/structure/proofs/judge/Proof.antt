@@ -30,24 +30,6 @@ loop-holds c = record { bounded = c .before .pre .0; fine = c .before .pre .2; r
 text-end-requires : tie.Need-text-end-requires Inv-loop μ-loop
 text-end-requires c κs = c .before .before .loop .inv .bounded .inside
 
-sub-record : tie.Need-sub-record Inv-loop μ-loop
-sub-record c = search needs
-
-part-record-start : tie.Need-part-record-start Inv-loop μ-loop
-part-record-start c = search needs
-
-part-record-end : tie.Need-part-record-end Inv-loop μ-loop
-part-record-end c = search needs
-
-row-of-requires : tie.Need-row-of-requires Inv-loop μ-loop
-row-of-requires c κs = search needs
-
-shaped-requires : tie.Need-shaped-requires Inv-loop μ-loop
-shaped-requires c κs = search needs
-
-index-requires : tie.Need-index-requires Inv-loop μ-loop
-index-requires c κs = search needs
-
 returns : tie.Need-returns Inv-loop μ-loop
 returns c =
     let g = c .before .before .before .before .before .before .before .before .before .before .before .args in
@@ -91,20 +73,6 @@ pub judge-spec : {M : Type 1} → statement M
 judge-spec =
     tie.close
     (tie.spec
-    Inv-loop
-    μ-loop
-    loop-holds
-    text-end-requires
-    sub-record
-    part-record-start
-    part-record-end
-    row-of-requires
-    shaped-requires
-    index-requires
-    returns
-    more-requires
-    after-record-requires
-    loop-less
-    loop-again
-    ended-requires
-    returns-2)
+    Inv-loop μ-loop loop-holds text-end-requires (λ c. search needs) (λ c. search needs) (λ c. search needs)
+    (λ c κs. search needs) (λ c κs. search needs) (λ c κs. search needs) returns more-requires after-record-requires loop-less
+    loop-again ended-requires returns-2)

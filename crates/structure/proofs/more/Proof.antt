@@ -17,15 +17,6 @@ numbered-requires c κs =
 follows-requires : tie.Need-follows-requires
 follows-requires c κs = let g = c .before .before .before .before .before .args in (c .before .before .before .before .before .pre .0 .0, row-six (g .«record» .now) (g .row) (c .before .before .before .before .before .pre .1 .0))
 
-first-requires : tie.Need-first-requires
-first-requires c κs = search needs
-
-first-requires-2 : tie.Need-first-requires-2
-first-requires-2 c κs = search needs
-
-first-requires-3 : tie.Need-first-requires-3
-first-requires-3 c κs = search needs
-
 returns : tie.Need-returns
 returns c =
     let g = c .before .before .before .before .before .before .before .before .before .args in
@@ -37,9 +28,4 @@ pub more-spec : {M : Type 1} → statement M
 more-spec =
     tie.close
     (tie.spec
-    numbered-requires
-    follows-requires
-    first-requires
-    first-requires-2
-    first-requires-3
-    returns)
+    numbered-requires follows-requires (λ c κs. search needs) (λ c κs. search needs) (λ c κs. search needs) returns)

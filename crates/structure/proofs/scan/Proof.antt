@@ -10,19 +10,10 @@ use borrow.Author.Needs.{needs}
 use Rattle.structure.proofs.scan.Statement.{statement}
 use Rattle.structure.proofs.scan.Tie as tie
 
-index-requires : tie.Need-index-requires
-index-requires c κs = search needs
-
 lines-from-requires : tie.Need-lines-from-requires
 lines-from-requires c κs =
     let b = c .before .before .before .pre .0 in
     (b .inside, omega (arith, b .few, c .index .ensures))
-
-enum-known-n : tie.Need-enum-known-n
-enum-known-n c = search needs
-
-enum-known-n-2 : tie.Need-enum-known-n-2
-enum-known-n-2 c = search needs
 
 judge-requires : tie.Need-judge-requires
 judge-requires c κs =
@@ -48,11 +39,4 @@ pub scan-spec : {M : Type 1} → statement M
 scan-spec =
     tie.close
     (tie.spec
-    index-requires
-    lines-from-requires
-    enum-known-n
-    enum-known-n-2
-    judge-requires
-    returns
-    returns-2
-    returns-3)
+    (λ c κs. search needs) lines-from-requires (λ c. search needs) (λ c. search needs) judge-requires returns returns-2 returns-3)

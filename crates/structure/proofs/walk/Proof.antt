@@ -16,12 +16,6 @@ Inv-loop file asked rows s₀ s = Stood file asked s
 abbrev μ-loop : tie.MeasureT-loop
 μ-loop file asked rows s₀ s = length file - s .at
 
-table-requires : tie.Need-table-requires Inv-loop μ-loop
-table-requires c κs = search needs
-
-zero-requires : tie.Need-zero-requires Inv-loop μ-loop
-zero-requires c κs = search needs
-
 loop-holds : tie.Need-loop-holds Inv-loop μ-loop
 loop-holds c =
     let z = c .zero in
@@ -32,30 +26,6 @@ sub-if1 c = omega (arith, c .loop .inv .bounded .inside)
 
 returns : tie.Need-returns Inv-loop μ-loop
 returns c = c .before .loop .inv
-
-shared-slice-read-hint : tie.Need-shared-slice-read-hint Inv-loop μ-loop
-shared-slice-read-hint c = search needs
-
-add-hint : tie.Need-add-hint Inv-loop μ-loop
-add-hint c = search needs
-
-shared-slice-read-hint-2 : tie.Need-shared-slice-read-hint-2 Inv-loop μ-loop
-shared-slice-read-hint-2 c = search needs
-
-add-hint-2 : tie.Need-add-hint-2 Inv-loop μ-loop
-add-hint-2 c = search needs
-
-shared-slice-read-hint-3 : tie.Need-shared-slice-read-hint-3 Inv-loop μ-loop
-shared-slice-read-hint-3 c = search needs
-
-hint-requires : tie.Need-hint-requires Inv-loop μ-loop
-hint-requires c κs = search needs
-
-mul-row : tie.Need-mul-row Inv-loop μ-loop
-mul-row c = search needs
-
-array-copy-out-row : tie.Need-array-copy-out-row Inv-loop μ-loop
-array-copy-out-row c = search needs
 
 right-requires : tie.Need-right-requires Inv-loop μ-loop
 right-requires c κs =
@@ -84,23 +54,6 @@ pub walk-spec : {M : Type 1} → statement M
 walk-spec =
     tie.close
     (tie.spec
-    Inv-loop
-    μ-loop
-    table-requires
-    zero-requires
-    loop-holds
-    sub-if1
-    returns
-    shared-slice-read-hint
-    add-hint
-    shared-slice-read-hint-2
-    add-hint-2
-    shared-slice-read-hint-3
-    hint-requires
-    mul-row
-    array-copy-out-row
-    right-requires
-    returns-2
-    after-record-requires
-    loop-less
-    loop-again)
+    Inv-loop μ-loop (λ c κs. search needs) (λ c κs. search needs) loop-holds sub-if1 returns (λ c. search needs)
+    (λ c. search needs) (λ c. search needs) (λ c. search needs) (λ c. search needs) (λ c κs. search needs) (λ c. search needs)
+    (λ c. search needs) right-requires returns-2 after-record-requires loop-less loop-again)

@@ -12,14 +12,8 @@ use Rattle.text.proofs.digit.Tie as tie
 range : (b : ℕ) → isDigit b ≡ true → (48 ≤ b) × (b ≤ 57)
 range b e = let h = and-eq-true-iff _ _ .0 e in (leb-true 48 b (h .0), leb-true b 57 (h .1))
 
-is-digit-requires : tie.Need-is-digit-requires
-is-digit-requires c κs = search needs
-
 sub-result : tie.Need-sub-result
 sub-result c = range _ (sym (c .before .is-digit .ensures) ∙ c .if1 .taken) .0
-
-cast-result : tie.Need-cast-result
-cast-result c = search needs
 
 returns : tie.Need-returns
 returns c =
@@ -30,4 +24,4 @@ returns-2 : tie.Need-returns-2
 returns-2 c = (rw (sym (c .before .is-digit .ensures) ∙ c .if1 .left), omega arith)
 
 pub digit-spec : {M : Type 1} → statement M
-digit-spec = tie.close (tie.spec is-digit-requires sub-result cast-result returns returns-2)
+digit-spec = tie.close (tie.spec (λ c κs. search needs) sub-result (λ c. search needs) returns returns-2)

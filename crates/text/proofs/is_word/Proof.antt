@@ -8,9 +8,6 @@ use Rattle.text.proofs.Words.{same-words}
 use Rattle.text.proofs.is_word.Statement.{statement}
 use Rattle.text.proofs.is_word.Tie as tie
 
-load-eight-requires : tie.Need-load-eight-requires
-load-eight-requires c κs = search needs
-
 returns : tie.Need-returns
 returns c =
     let x = c .before .before .args .x in
@@ -18,4 +15,4 @@ returns c =
     same-words 8 r x (omega arith) (omega arith) ∙ ap (λ (l : Bytes). sameBytes l (bytesOf 8 x)) (c .load-eight .ensures .1)
 
 pub is-word-spec : {M : Type 1} → statement M
-is-word-spec = tie.close (tie.spec load-eight-requires returns)
+is-word-spec = tie.close (tie.spec (λ c κs. search needs) returns)

@@ -66,17 +66,5 @@ pub next-eight-spec : {M : Type 1} → statement M
 next-eight-spec =
     tie.close
     (tie.spec
-    Inv-loop
-    μ-loop
-    loop-holds
-    mul-loop
-    mul-zeros
-    add-zeros
-    mul-rest
-    sub-rest
-    sub-i
-    loop-less
-    loop-again
-    add-result
-    add-result-2
+    Inv-loop μ-loop loop-holds mul-loop mul-zeros add-zeros mul-rest sub-rest sub-i loop-less loop-again add-result add-result-2
     returns)

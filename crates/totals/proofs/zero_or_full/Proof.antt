@@ -3,11 +3,8 @@ use borrow.Author.Needs.{needs}
 use Rattle.totals.proofs.zero_or_full.Statement.{statement}
 use Rattle.totals.proofs.zero_or_full.Tie as tie
 
-about-requires : tie.Need-about-requires
-about-requires c κs = search needs
-
 returns : tie.Need-returns
 returns c = rw (c .about .ensures)
 
 pub zero-or-full-spec : {M : Type 1} → statement M
-zero-or-full-spec = tie.close (tie.spec about-requires returns)
+zero-or-full-spec = tie.close (tie.spec (λ c κs. search needs) returns)

@@ -45,12 +45,6 @@ turn c =
 its : (c : tie.After-confirmed-row Inv-loop μ-loop) → c .confirmed-row .result ≡ rowFor (take 3 (drop (c .before .before .before .before .before .before .before .loop .w .at) (c .before .before .before .before .before .before .before .before .before .before .before .before .before .before .before .args .file .now)))
 its c = c .confirmed-row .ensures ∙ ap (λ (b : Bytes). rowFor (take 3 b)) (to-end (c .before .before .before .before .before .before .before .before .before .before .before .before .before .before .before .args .file .now) (c .before .before .before .before .before .before .before .loop .w .at))
 
-table-requires : tie.Need-table-requires Inv-loop μ-loop
-table-requires c κs = search needs
-
-start-requires : tie.Need-start-requires Inv-loop μ-loop
-start-requires c κs = search needs
-
 loop-holds : tie.Need-loop-holds Inv-loop μ-loop
 loop-holds c = begins (c .before .before .before .before .before .before .before .args .file .now) (c .before .before .before .before .before .before .before .args .societies .now) (c .before .before .before .before .before .before .before .args .start) (c .before .before .before .before .before .before .before .args .first) (c .before .before .before .before .before .before .before .args .verdicts .now) (c .before .before .before .before .before .before .before .args .findings .now) _ (c .start .result) (c .before .before .before .before .before .before .before .pre .0 .1) (c .before .before .before .before .before .before .before .pre .0 .2) none-yet (c .start .ensures)
 
@@ -69,15 +63,6 @@ add-hint-2 c = omega (arith, three (turn (c .before .before)))
 shared-slice-read-hint-3 : tie.Need-shared-slice-read-hint-3 Inv-loop μ-loop
 shared-slice-read-hint-3 c = omega (arith, three (turn (c .before .before .before)))
 
-hint-requires : tie.Need-hint-requires Inv-loop μ-loop
-hint-requires c κs = search needs
-
-mul-confirmed-row : tie.Need-mul-confirmed-row Inv-loop μ-loop
-mul-confirmed-row c = search needs
-
-array-copy-out-confirmed-row : tie.Need-array-copy-out-confirmed-row Inv-loop μ-loop
-array-copy-out-confirmed-row c = search needs
-
 sub-confirmed-row : tie.Need-sub-confirmed-row Inv-loop μ-loop
 sub-confirmed-row c = omega (arith, three (turn (c .before .before .before .before .before)))
 
@@ -93,9 +78,6 @@ confirmed-row-requires c κs = (
   λ t e. hinted (c .before .before .before .before .before .before .before .before .table .result) (c .before .before .before .before .before .before .before .before .table .ensures) t (c .before .before .hint .result) (in-table (c .before .before .before .before .before .before .before .before .table .result) (c .before .before .before .before .before .before .before .before .table .ensures) (c .before .before .hint .result) (c .before .before .hint .ensures)) _ e,
 )
 
-links-of-requires : tie.Need-links-of-requires Inv-loop μ-loop
-links-of-requires c κs = search needs
-
 same-length : tie.Need-same-length Inv-loop μ-loop
 same-length c = same-v (turn (c .before .before .before .before .before .before .before .before .before .before .before .before))
 
@@ -104,9 +86,6 @@ same-length-2 c = same-g (turn (c .before .before .before .before .before .befor
 
 returns : tie.Need-returns Inv-loop μ-loop
 returns c t e = done (turn (c .before .before .before .before .before .before .before .before .before .before .before .before)) (c .before .before .before .before .before .confirmed-row .result) (its (c .before .before .before .before .before)) (c .before .before .before .if1 .taken) (c .links-of .result) (c .links-of .ensures (ds (turn (c .before .before .before .before .before .before .before .before .before .before .before .before))) _ _ _ (tallied (turn (c .before .before .before .before .before .before .before .before .before .before .before .before)))) t e
-
-size-requires : tie.Need-size-requires Inv-loop μ-loop
-size-requires c κs = search needs
 
 add-end : tie.Need-add-end Inv-loop μ-loop
 add-end c = omega (arith, at-first (turn (c .before .before .before .before .before .before .before .before .before .before)) (c .before .before .before .confirmed-row .result) (its (c .before .before .before)) .ends, c .size .ensures, c .before .before .before .before .before .before .before .before .before .before .before .before .before .before .before .before .before .before .pre .0 .0)
@@ -126,9 +105,6 @@ lent c = bytes (turn (c .before .before .before .before .before .before .before 
 
 read-requires : tie.Need-read-requires Inv-loop μ-loop
 read-requires c κs = rw (lent (c .before .before .before .before)) (publisher-here (c .before .before .before .before .before .before .before .confirmed-row .result) (r (turn (c .before .before .before .before .before .before .before .before .before .before .before .before .before .before))) (at-first (turn (c .before .before .before .before .before .before .before .before .before .before .before .before .before .before)) (c .before .before .before .before .before .before .before .confirmed-row .result) (its (c .before .before .before .before .before .before .before)) .own) (at-first (turn (c .before .before .before .before .before .before .before .before .before .before .before .before .before .before)) (c .before .before .before .before .before .before .before .confirmed-row .result) (its (c .before .before .before .before .before .before .before)) .long) (c .if2 .taken))
-
-is-known-requires : tie.Need-is-known-requires Inv-loop μ-loop
-is-known-requires c κs = search needs
 
 judged-requires : tie.Need-judged-requires Inv-loop μ-loop
 judged-requires c κs = (below (turn (c .before .before .before .before .before .before .before .before .before .before .before .before .before .before .before .before .before)), shares-most (c .before .before .read .result) (r (turn (c .before .before .before .before .before .before .before .before .before .before .before .before .before .before .before .before .before))) (subst (λ (b : Bytes). Reads (c .before .before .read .result) b) (lent (c .before .before .before .before .before .before .before)) (c .before .before .read .ensures)), last (turn (c .before .before .before .before .before .before .before .before .before .before .before .before .before .before .before .before .before)), rw (lent (c .before .before .before .before .before .before .before)) (publisher-here (c .before .before .before .before .before .before .before .before .before .before .confirmed-row .result) (r (turn (c .before .before .before .before .before .before .before .before .before .before .before .before .before .before .before .before .before))) (at-first (turn (c .before .before .before .before .before .before .before .before .before .before .before .before .before .before .before .before .before)) (c .before .before .before .before .before .before .before .before .before .before .confirmed-row .result) (its (c .before .before .before .before .before .before .before .before .before .before)) .own) (at-first (turn (c .before .before .before .before .before .before .before .before .before .before .before .before .before .before .before .before .before)) (c .before .before .before .before .before .before .before .before .before .before .confirmed-row .result) (its (c .before .before .before .before .before .before .before .before .before .before)) .long) (c .before .before .before .if2 .taken)), c .before .before .before .before .before .before .before .before .before .before .before .before .before .before .before .before .before .before .before .before .before .before .before .before .before .pre .1)
@@ -161,40 +137,9 @@ pub judge-details-spec : {M : Type 1} → statement M
 judge-details-spec =
     tie.close
     (tie.spec
-    Inv-loop
-    μ-loop
-    table-requires
-    start-requires
-    loop-holds
-    shared-slice-read-hint
-    add-hint
-    shared-slice-read-hint-2
-    add-hint-2
-    shared-slice-read-hint-3
-    hint-requires
-    mul-confirmed-row
-    array-copy-out-confirmed-row
-    sub-confirmed-row
-    part-confirmed-row-start
-    part-confirmed-row-end
-    confirmed-row-requires
-    links-of-requires
-    same-length
-    same-length-2
-    returns
-    size-requires
-    add-end
-    sub-record
-    part-record-start
-    part-record-end
-    read-requires
-    is-known-requires
-    judged-requires
-    join-requires
-    on-requires
-    loop-less
-    loop-again
-    other-requires
-    on-requires-2
-    loop-less-2
+    Inv-loop μ-loop (λ c κs. search needs) (λ c κs. search needs) loop-holds shared-slice-read-hint add-hint
+    shared-slice-read-hint-2 add-hint-2 shared-slice-read-hint-3 (λ c κs. search needs) (λ c. search needs) (λ c. search needs)
+    sub-confirmed-row part-confirmed-row-start part-confirmed-row-end confirmed-row-requires (λ c κs. search needs) same-length
+    same-length-2 returns (λ c κs. search needs) add-end sub-record part-record-start part-record-end read-requires
+    (λ c κs. search needs) judged-requires join-requires on-requires loop-less loop-again other-requires on-requires-2 loop-less-2
     loop-again-2)

@@ -3,11 +3,8 @@ use borrow.Author.Needs.{needs}
 use Rattle.works.proofs.links_of.Statement.{statement}
 use Rattle.works.proofs.links_of.Tie as tie
 
-shareless-requires : tie.Need-shareless-requires
-shareless-requires c κs = search needs
-
 returns : tie.Need-returns
 returns c ds es own paid t = record { many = t .many; shareless = c .shareless .ensures ds (t .begun) (t .sums); joined = t .joined; kept = t .kept }
 
 pub links-of-spec : {M : Type 1} → statement M
-links-of-spec = tie.close (tie.spec shareless-requires returns)
+links-of-spec = tie.close (tie.spec (λ c κs. search needs) returns)

@@ -7,17 +7,11 @@ use Rattle.answers.proofs.Parts.{told-passed, told-refused}
 use Rattle.answers.proofs.Answer.packed.Statement.{statement}
 use Rattle.answers.proofs.Answer.packed.Tie as tie
 
-told-requires : tie.Need-told-requires
-told-requires c κs = search needs
-
 returns : tie.Need-returns
 returns c = ap packedOf (sym (told-passed (answerOf (c .before .before .args .self)) (c .before .told .result) (c .before .told .ensures .0) (c .if1 .taken)))
-
-pack-requires : tie.Need-pack-requires
-pack-requires c κs = search needs
 
 returns-2 : tie.Need-returns-2
 returns-2 c = c .pack .ensures ∙ ap packedOf (sym (told-refused (answerOf (c .before .before .before .args .self)) (c .before .before .told .result) (c .before .before .told .ensures .0) (c .before .if1 .left)))
 
 pub packed-spec : {M : Type 1} → statement M
-packed-spec = tie.close (tie.spec told-requires returns pack-requires returns-2)
+packed-spec = tie.close (tie.spec (λ c κs. search needs) returns (λ c κs. search needs) returns-2)

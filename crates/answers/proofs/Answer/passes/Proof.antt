@@ -7,11 +7,8 @@ use Rattle.answers.proofs.Parts.{told-passes}
 use Rattle.answers.proofs.Answer.passes.Statement.{statement}
 use Rattle.answers.proofs.Answer.passes.Tie as tie
 
-told-requires : tie.Need-told-requires
-told-requires c κs = search needs
-
 returns : tie.Need-returns
 returns c = ap (λ (told : Told). told .passes) (c .told .ensures .0) ∙ told-passes (answerOf (c .before .args .self))
 
 pub passes-spec : {M : Type 1} → statement M
-passes-spec = tie.close (tie.spec told-requires returns)
+passes-spec = tie.close (tie.spec (λ c κs. search needs) returns)

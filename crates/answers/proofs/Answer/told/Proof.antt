@@ -5,75 +5,6 @@ use borrow.Author.Needs.{needs}
 use Rattle.answers.proofs.Answer.told.Statement.{statement}
 use Rattle.answers.proofs.Answer.told.Tie as tie
 
-enum-told : tie.Need-enum-told
-enum-told c = search needs
-
-refusal-requires : tie.Need-refusal-requires
-refusal-requires c κs = search needs
-
-enum-known-self : tie.Need-enum-known-self
-enum-known-self c = search needs
-
-refusal-requires-2 : tie.Need-refusal-requires-2
-refusal-requires-2 c κs = search needs
-
-enum-told-2 : tie.Need-enum-told-2
-enum-told-2 c = search needs
-
-refusal-requires-3 : tie.Need-refusal-requires-3
-refusal-requires-3 c κs = search needs
-
-enum-known-self-2 : tie.Need-enum-known-self-2
-enum-known-self-2 c = search needs
-
-refusal-requires-4 : tie.Need-refusal-requires-4
-refusal-requires-4 c κs = search needs
-
-enum-told-3 : tie.Need-enum-told-3
-enum-told-3 c = search needs
-
-refusal-requires-5 : tie.Need-refusal-requires-5
-refusal-requires-5 c κs = search needs
-
-enum-known-self-3 : tie.Need-enum-known-self-3
-enum-known-self-3 c = search needs
-
-refusal-requires-6 : tie.Need-refusal-requires-6
-refusal-requires-6 c κs = search needs
-
-enum-known-self-4 : tie.Need-enum-known-self-4
-enum-known-self-4 c = search needs
-
-refusal-requires-7 : tie.Need-refusal-requires-7
-refusal-requires-7 c κs = search needs
-
-enum-known-self-5 : tie.Need-enum-known-self-5
-enum-known-self-5 c = search needs
-
-refusal-requires-8 : tie.Need-refusal-requires-8
-refusal-requires-8 c κs = search needs
-
-enum-known-self-6 : tie.Need-enum-known-self-6
-enum-known-self-6 c = search needs
-
-refusal-requires-9 : tie.Need-refusal-requires-9
-refusal-requires-9 c κs = search needs
-
-enum-told-4 : tie.Need-enum-told-4
-enum-told-4 c = search needs
-
-refusal-requires-10 : tie.Need-refusal-requires-10
-refusal-requires-10 c κs = search needs
-
-enum-told-5 : tie.Need-enum-told-5
-enum-told-5 c = search needs
-
-refusal-requires-11 : tie.Need-refusal-requires-11
-refusal-requires-11 c κs = search needs
-
-enum-known-self-7 : tie.Need-enum-known-self-7
-enum-known-self-7 c = search needs
-
 returns : tie.Need-returns
 returns c = (rw (c .before .enum-told .given .1) (c .refusal .ensures .0), c .refusal .ensures .1)
 
@@ -114,38 +45,9 @@ pub told-spec : {M : Type 1} → statement M
 told-spec =
     tie.close
     (tie.spec
-    enum-told
-    refusal-requires
-    enum-known-self
-    refusal-requires-2
-    enum-told-2
-    refusal-requires-3
-    enum-known-self-2
-    refusal-requires-4
-    enum-told-3
-    refusal-requires-5
-    enum-known-self-3
-    refusal-requires-6
-    enum-known-self-4
-    refusal-requires-7
-    enum-known-self-5
-    refusal-requires-8
-    enum-known-self-6
-    refusal-requires-9
-    enum-told-4
-    refusal-requires-10
-    enum-told-5
-    refusal-requires-11
-    enum-known-self-7
-    returns
-    returns-2
-    returns-3
-    returns-4
-    returns-5
-    returns-6
-    returns-7
-    returns-8
-    returns-9
-    returns-10
-    returns-11
-    returns-12)
+    (λ c. search needs) (λ c κs. search needs) (λ c. search needs) (λ c κs. search needs) (λ c. search needs)
+    (λ c κs. search needs) (λ c. search needs) (λ c κs. search needs) (λ c. search needs) (λ c κs. search needs)
+    (λ c. search needs) (λ c κs. search needs) (λ c. search needs) (λ c κs. search needs) (λ c. search needs)
+    (λ c κs. search needs) (λ c. search needs) (λ c κs. search needs) (λ c. search needs) (λ c κs. search needs)
+    (λ c. search needs) (λ c κs. search needs) (λ c. search needs) returns returns-2 returns-3 returns-4 returns-5 returns-6
+    returns-7 returns-8 returns-9 returns-10 returns-11 returns-12)

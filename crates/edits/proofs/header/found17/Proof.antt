@@ -9,12 +9,6 @@ use borrow.Author.Needs.{needs}
 use Rattle.edits.proofs.header.found17.Statement.{statement}
 use Rattle.edits.proofs.header.found17.Tie as tie
 
-field-requires : tie.Need-field-requires
-field-requires c κs = search needs
-
-blank-requires : tie.Need-blank-requires
-blank-requires c κs = search needs
-
 returns : tie.Need-returns
 unfolding is17
 returns c =
@@ -37,4 +31,4 @@ returns-2 c =
     λ t e. rw (s .pre .0 .1, e, ← f .ensures .0) (entered-not 2 (s .args .languages .now) (f .result .now) (c .has .result) (sym (c .before .before .blank .ensures) ∙ c .before .if1 .left) (f .ensures .1) (c .has .ensures))
 
 pub found17-spec : {M : Type 1} → statement M
-found17-spec = tie.close (tie.spec field-requires blank-requires returns has-requires returns-2)
+found17-spec = tie.close (tie.spec (λ c κs. search needs) (λ c κs. search needs) returns has-requires returns-2)

@@ -6,12 +6,6 @@ use borrow.Author.Needs.{needs}
 use Rattle.edits.proofs.header.found21.Statement.{statement}
 use Rattle.edits.proofs.header.found21.Tie as tie
 
-field-requires : tie.Need-field-requires
-field-requires c κs = search needs
-
-blank-requires : tie.Need-blank-requires
-blank-requires c κs = search needs
-
 has-requires : tie.Need-has-requires
 has-requires c κs =
     let f = c .before .field in
@@ -25,4 +19,4 @@ returns c =
     λ t e. rw (s .pre .0 .1, e, c .before .blank .ensures, c .has .ensures, f .ensures .1, f .ensures .0)
 
 pub found21-spec : {M : Type 1} → statement M
-found21-spec = tie.close (tie.spec field-requires blank-requires has-requires returns)
+found21-spec = tie.close (tie.spec (λ c κs. search needs) (λ c κs. search needs) has-requires returns)

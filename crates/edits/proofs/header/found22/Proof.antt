@@ -5,22 +5,10 @@ use borrow.Author.Needs.{needs}
 use Rattle.edits.proofs.header.found22.Statement.{statement}
 use Rattle.edits.proofs.header.found22.Tie as tie
 
-field-requires : tie.Need-field-requires
-field-requires c κs = search needs
-
-serious-requires : tie.Need-serious-requires
-serious-requires c κs = search needs
-
-zeros-requires : tie.Need-zeros-requires
-zeros-requires c κs = search needs
-
-duration-requires : tie.Need-duration-requires
-duration-requires c κs = search needs
-
 returns : tie.Need-returns
 unfolding is22
 returns c = rw (c .before .before .before .before .before .pre .1) (cc)
 
 pub found22-spec : {M : Type 1} → statement M
 found22-spec =
-    tie.close (tie.spec field-requires serious-requires zeros-requires duration-requires returns)
+    tie.close (tie.spec (λ c κs. search needs) (λ c κs. search needs) (λ c κs. search needs) (λ c κs. search needs) returns)

@@ -5,18 +5,6 @@ use borrow.Author.Needs.{needs}
 use Rattle.edits.proofs.header.serious.Statement.{statement}
 use Rattle.edits.proofs.header.serious.Tie as tie
 
-field-requires : tie.Need-field-requires
-field-requires c κs = search needs
-
-shared-slice-read-result : tie.Need-shared-slice-read-result
-shared-slice-read-result c = search needs
-
-shared-slice-read-result-2 : tie.Need-shared-slice-read-result-2
-shared-slice-read-result-2 c = search needs
-
-shared-slice-read-result-3 : tie.Need-shared-slice-read-result-3
-shared-slice-read-result-3 c = search needs
-
 returns : tie.Need-returns
 returns c = let f = c .before .before .before .field in cc (serious-is (f .result .now) (f .ensures .1))
 
@@ -24,8 +12,4 @@ pub serious-spec : {M : Type 1} → statement M
 serious-spec =
     tie.close
     (tie.spec
-    field-requires
-    shared-slice-read-result
-    shared-slice-read-result-2
-    shared-slice-read-result-3
-    returns)
+    (λ c κs. search needs) (λ c. search needs) (λ c. search needs) (λ c. search needs) returns)

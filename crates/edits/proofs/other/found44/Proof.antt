@@ -11,18 +11,6 @@ use borrow.Author.Needs.{needs}
 use Rattle.edits.proofs.other.found44.Statement.{statement}
 use Rattle.edits.proofs.other.found44.Tie as tie
 
-field-requires : tie.Need-field-requires
-field-requires c κs = search needs
-
-zeros-requires : tie.Need-zeros-requires
-zeros-requires c κs = search needs
-
-field-requires-2 : tie.Need-field-requires-2
-field-requires-2 c κs = search needs
-
-zeros-requires-2 : tie.Need-zeros-requires-2
-zeros-requires-2 c κs = search needs
-
 returns : tie.Need-returns
 returns c =
     let s = c .before .before .before .before .before .before in
@@ -30,12 +18,6 @@ returns c =
     let d : (s .args .b45 || c .before .before .before .zeros .result) ≡ areZeros (dateInForce r) = rw (s .pre .1 .0, c .before .before .before .zeros .ensures, c .before .before .before .before .field .ensures .0) (date-zeros r) in
     let u : (s .args .b46 || c .before .zeros2 .result) ≡ areZeros (durationInForce r) = rw (s .pre .1 .1, c .before .zeros2 .ensures, c .before .before .field2 .ensures .0) (duration-zeros r) in
     not-44 r (rw (← d, ← u) (not-true _ (c .if1 .taken)))
-
-field-requires-3 : tie.Need-field-requires-3
-field-requires-3 c κs = search needs
-
-blank-requires : tie.Need-blank-requires
-blank-requires c κs = search needs
 
 returns-2 : tie.Need-returns-2
 returns-2 c =
@@ -49,11 +31,5 @@ pub found44-spec : {M : Type 1} → statement M
 found44-spec =
     tie.close
     (tie.spec
-    field-requires
-    zeros-requires
-    field-requires-2
-    zeros-requires-2
-    returns
-    field-requires-3
-    blank-requires
-    returns-2)
+    (λ c κs. search needs) (λ c κs. search needs) (λ c κs. search needs) (λ c κs. search needs) returns (λ c κs. search needs)
+    (λ c κs. search needs) returns-2)

@@ -5,15 +5,9 @@ use borrow.Author.Needs.{needs}
 use Rattle.edits.proofs.other.found46.Statement.{statement}
 use Rattle.edits.proofs.other.found46.Tie as tie
 
-field-requires : tie.Need-field-requires
-field-requires c κs = search needs
-
-duration-requires : tie.Need-duration-requires
-duration-requires c κs = search needs
-
 returns : tie.Need-returns
 unfolding is46
 returns c = rw (c .before .before .before .pre .1) (cc)
 
 pub found46-spec : {M : Type 1} → statement M
-found46-spec = tie.close (tie.spec field-requires duration-requires returns)
+found46-spec = tie.close (tie.spec (λ c κs. search needs) (λ c κs. search needs) returns)

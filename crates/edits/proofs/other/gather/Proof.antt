@@ -11,24 +11,6 @@ use borrow.Author.Needs.{needs}
 use Rattle.edits.proofs.other.gather.Statement.{statement}
 use Rattle.edits.proofs.other.gather.Tie as tie
 
-weigh-requires : tie.Need-weigh-requires
-weigh-requires c κs = search needs
-
-weigh-requires-2 : tie.Need-weigh-requires-2
-weigh-requires-2 c κs = search needs
-
-add-set : tie.Need-add-set
-add-set c = search needs
-
-weigh-requires-3 : tie.Need-weigh-requires-3
-weigh-requires-3 c κs = search needs
-
-add-set-2 : tie.Need-add-set-2
-add-set-2 c = search needs
-
-worst-requires : tie.Need-worst-requires
-worst-requires c κs = search needs
-
 returns : tie.Need-returns
 unfolding level
 returns c =
@@ -41,10 +23,5 @@ pub gather-spec : {M : Type 1} → statement M
 gather-spec =
     tie.close
     (tie.spec
-    weigh-requires
-    weigh-requires-2
-    add-set
-    weigh-requires-3
-    add-set-2
-    worst-requires
-    returns)
+    (λ c κs. search needs) (λ c κs. search needs) (λ c. search needs) (λ c κs. search needs) (λ c. search needs)
+    (λ c κs. search needs) returns)

@@ -11,12 +11,6 @@ use borrow.Author.Needs.{needs}
 use Rattle.edits.proofs.other.nameless.Statement.{statement}
 use Rattle.edits.proofs.other.nameless.Tie as tie
 
-weigh-requires : tie.Need-weigh-requires
-weigh-requires c κs = search needs
-
-worst-requires : tie.Need-worst-requires
-worst-requires c κs = search needs
-
 returns : tie.Need-returns
 unfolding level
 returns c =
@@ -26,4 +20,4 @@ returns c =
     (omega (arith, set-weighed bs), c .worst .ensures ∙ sym (worst-top bs refl ∙ e))
 
 pub nameless-spec : {M : Type 1} → statement M
-nameless-spec = tie.close (tie.spec weigh-requires worst-requires returns)
+nameless-spec = tie.close (tie.spec (λ c κs. search needs) (λ c κs. search needs) returns)

@@ -5,18 +5,6 @@ use borrow.Author.Needs.{needs}
 use Rattle.edits.proofs.other.recording.Statement.{statement}
 use Rattle.edits.proofs.other.recording.Tie as tie
 
-found45-requires : tie.Need-found45-requires
-found45-requires c κs = search needs
-
-found46-requires : tie.Need-found46-requires
-found46-requires c κs = search needs
-
-found44-requires : tie.Need-found44-requires
-found44-requires c κs = search needs
-
-gather-requires : tie.Need-gather-requires
-gather-requires c κs = search needs
-
 returns : tie.Need-returns
 returns c =
     let s = c .before .before .before .before .before in
@@ -27,4 +15,4 @@ returns c =
 
 pub recording-spec : {M : Type 1} → statement M
 recording-spec =
-    tie.close (tie.spec found45-requires found46-requires found44-requires gather-requires returns)
+    tie.close (tie.spec (λ c κs. search needs) (λ c κs. search needs) (λ c κs. search needs) (λ c κs. search needs) returns)

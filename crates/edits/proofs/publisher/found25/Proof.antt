@@ -8,21 +8,6 @@ use borrow.Author.Needs.{needs}
 use Rattle.edits.proofs.publisher.found25.Statement.{statement}
 use Rattle.edits.proofs.publisher.found25.Tie as tie
 
-field-requires : tie.Need-field-requires
-field-requires c κs = search needs
-
-shared-slice-read-first : tie.Need-shared-slice-read-first
-shared-slice-read-first c = search needs
-
-shared-slice-read-first-2 : tie.Need-shared-slice-read-first-2
-shared-slice-read-first-2 c = search needs
-
-sequence-requires : tie.Need-sequence-requires
-sequence-requires c κs = search needs
-
-add-result : tie.Need-add-result
-add-result c = search needs
-
 returns : tie.Need-returns
 returns c =
     let s = c .before .before .before .before .before in
@@ -34,9 +19,4 @@ pub found25-spec : {M : Type 1} → statement M
 found25-spec =
     tie.close
     (tie.spec
-    field-requires
-    shared-slice-read-first
-    shared-slice-read-first-2
-    sequence-requires
-    add-result
-    returns)
+    (λ c κs. search needs) (λ c. search needs) (λ c. search needs) (λ c κs. search needs) (λ c. search needs) returns)

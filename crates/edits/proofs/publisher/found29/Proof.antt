@@ -5,18 +5,9 @@ use borrow.Author.Needs.{needs}
 use Rattle.edits.proofs.publisher.found29.Statement.{statement}
 use Rattle.edits.proofs.publisher.found29.Tie as tie
 
-is-spu-requires : tie.Need-is-spu-requires
-is-spu-requires c κs = search needs
-
-field-requires : tie.Need-field-requires
-field-requires c κs = search needs
-
-blank-requires : tie.Need-blank-requires
-blank-requires c κs = search needs
-
 returns : tie.Need-returns
 unfolding is29
 returns c = cc
 
 pub found29-spec : {M : Type 1} → statement M
-found29-spec = tie.close (tie.spec is-spu-requires field-requires blank-requires returns)
+found29-spec = tie.close (tie.spec (λ c κs. search needs) (λ c κs. search needs) (λ c κs. search needs) returns)

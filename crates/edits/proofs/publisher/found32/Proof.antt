@@ -6,9 +6,6 @@ use borrow.Author.Needs.{needs}
 use Rattle.edits.proofs.publisher.found32.Statement.{statement}
 use Rattle.edits.proofs.publisher.found32.Tie as tie
 
-is-spu-requires : tie.Need-is-spu-requires
-is-spu-requires c κs = search needs
-
 returns : tie.Need-returns
 unfolding is32
 returns c =
@@ -17,4 +14,4 @@ returns c =
     λ before e. cc (type-AQ r)
 
 pub found32-spec : {M : Type 1} → statement M
-found32-spec = tie.close (tie.spec is-spu-requires returns)
+found32-spec = tie.close (tie.spec (λ c κs. search needs) returns)

@@ -6,12 +6,9 @@ use borrow.Author.Needs.{needs}
 use Rattle.edits.proofs.publisher.found35.Statement.{statement}
 use Rattle.edits.proofs.publisher.found35.Tie as tie
 
-is-spu-requires : tie.Need-is-spu-requires
-is-spu-requires c κs = search needs
-
 returns : tie.Need-returns
 unfolding is35
 returns c = cc (no-type (c .before .before .args .record .now))
 
 pub found35-spec : {M : Type 1} → statement M
-found35-spec = tie.close (tie.spec is-spu-requires returns)
+found35-spec = tie.close (tie.spec (λ c κs. search needs) returns)

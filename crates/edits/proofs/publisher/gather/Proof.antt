@@ -11,84 +11,6 @@ use borrow.Author.Needs.{needs}
 use Rattle.edits.proofs.publisher.gather.Statement.{statement}
 use Rattle.edits.proofs.publisher.gather.Tie as tie
 
-weigh-requires : tie.Need-weigh-requires
-weigh-requires c κs = search needs
-
-weigh-requires-2 : tie.Need-weigh-requires-2
-weigh-requires-2 c κs = search needs
-
-add-set : tie.Need-add-set
-add-set c = search needs
-
-weigh-requires-3 : tie.Need-weigh-requires-3
-weigh-requires-3 c κs = search needs
-
-add-set-2 : tie.Need-add-set-2
-add-set-2 c = search needs
-
-weigh-requires-4 : tie.Need-weigh-requires-4
-weigh-requires-4 c κs = search needs
-
-add-set-3 : tie.Need-add-set-3
-add-set-3 c = search needs
-
-weigh-requires-5 : tie.Need-weigh-requires-5
-weigh-requires-5 c κs = search needs
-
-add-set-4 : tie.Need-add-set-4
-add-set-4 c = search needs
-
-weigh-requires-6 : tie.Need-weigh-requires-6
-weigh-requires-6 c κs = search needs
-
-add-set-5 : tie.Need-add-set-5
-add-set-5 c = search needs
-
-weigh-requires-7 : tie.Need-weigh-requires-7
-weigh-requires-7 c κs = search needs
-
-add-set-6 : tie.Need-add-set-6
-add-set-6 c = search needs
-
-weigh-requires-8 : tie.Need-weigh-requires-8
-weigh-requires-8 c κs = search needs
-
-add-set-7 : tie.Need-add-set-7
-add-set-7 c = search needs
-
-weigh-requires-9 : tie.Need-weigh-requires-9
-weigh-requires-9 c κs = search needs
-
-add-set-8 : tie.Need-add-set-8
-add-set-8 c = search needs
-
-weigh-requires-10 : tie.Need-weigh-requires-10
-weigh-requires-10 c κs = search needs
-
-add-set-9 : tie.Need-add-set-9
-add-set-9 c = search needs
-
-weigh-requires-11 : tie.Need-weigh-requires-11
-weigh-requires-11 c κs = search needs
-
-add-set-10 : tie.Need-add-set-10
-add-set-10 c = search needs
-
-weigh-requires-12 : tie.Need-weigh-requires-12
-weigh-requires-12 c κs = search needs
-
-add-set-11 : tie.Need-add-set-11
-add-set-11 c = search needs
-
-weigh-requires-13 : tie.Need-weigh-requires-13
-weigh-requires-13 c κs = search needs
-
-add-set-12 : tie.Need-add-set-12
-add-set-12 c = search needs
-
-worst-requires : tie.Need-worst-requires
-worst-requires c κs = search needs
-
 returns : tie.Need-returns
 unfolding level
 returns c =
@@ -101,30 +23,9 @@ pub gather-spec : {M : Type 1} → statement M
 gather-spec =
     tie.close
     (tie.spec
-    weigh-requires
-    weigh-requires-2
-    add-set
-    weigh-requires-3
-    add-set-2
-    weigh-requires-4
-    add-set-3
-    weigh-requires-5
-    add-set-4
-    weigh-requires-6
-    add-set-5
-    weigh-requires-7
-    add-set-6
-    weigh-requires-8
-    add-set-7
-    weigh-requires-9
-    add-set-8
-    weigh-requires-10
-    add-set-9
-    weigh-requires-11
-    add-set-10
-    weigh-requires-12
-    add-set-11
-    weigh-requires-13
-    add-set-12
-    worst-requires
-    returns)
+    (λ c κs. search needs) (λ c κs. search needs) (λ c. search needs) (λ c κs. search needs) (λ c. search needs)
+    (λ c κs. search needs) (λ c. search needs) (λ c κs. search needs) (λ c. search needs) (λ c κs. search needs)
+    (λ c. search needs) (λ c κs. search needs) (λ c. search needs) (λ c κs. search needs) (λ c. search needs)
+    (λ c κs. search needs) (λ c. search needs) (λ c κs. search needs) (λ c. search needs) (λ c κs. search needs)
+    (λ c. search needs) (λ c κs. search needs) (λ c. search needs) (λ c κs. search needs) (λ c. search needs)
+    (λ c κs. search needs) returns)

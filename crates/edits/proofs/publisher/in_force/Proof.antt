@@ -7,12 +7,6 @@ use borrow.Author.Needs.{needs}
 use Rattle.edits.proofs.publisher.in_force.Statement.{statement}
 use Rattle.edits.proofs.publisher.in_force.Tie as tie
 
-is-spu-requires : tie.Need-is-spu-requires
-is-spu-requires c κs = search needs
-
-pick-requires : tie.Need-pick-requires
-pick-requires c κs = search needs
-
 returns : tie.Need-returns
 returns c =
     let s = c .before .before .before in
@@ -20,4 +14,4 @@ returns c =
     c .pick .ensures ∙ in-force r (not (c .before .is-spu .result)) (s .args .place) (c .before .is-spu .ensures .1) (s .pre .1)
 
 pub in-force-spec : {M : Type 1} → statement M
-in-force-spec = tie.close (tie.spec is-spu-requires pick-requires returns)
+in-force-spec = tie.close (tie.spec (λ c κs. search needs) (λ c κs. search needs) returns)

@@ -5,54 +5,6 @@ use borrow.Author.Needs.{needs}
 use Rattle.edits.proofs.publisher.judge.Statement.{statement}
 use Rattle.edits.proofs.publisher.judge.Tie as tie
 
-type-place-requires : tie.Need-type-place-requires
-type-place-requires c κs = search needs
-
-in-force-requires : tie.Need-in-force-requires
-in-force-requires c κs = search needs
-
-read-shares-requires : tie.Need-read-shares-requires
-read-shares-requires c κs = search needs
-
-found25-requires : tie.Need-found25-requires
-found25-requires c κs = search needs
-
-found26-requires : tie.Need-found26-requires
-found26-requires c κs = search needs
-
-found27-requires : tie.Need-found27-requires
-found27-requires c κs = search needs
-
-found28-requires : tie.Need-found28-requires
-found28-requires c κs = search needs
-
-found29-requires : tie.Need-found29-requires
-found29-requires c κs = search needs
-
-found31-requires : tie.Need-found31-requires
-found31-requires c κs = search needs
-
-found32-requires : tie.Need-found32-requires
-found32-requires c κs = search needs
-
-found33-requires : tie.Need-found33-requires
-found33-requires c κs = search needs
-
-found34-requires : tie.Need-found34-requires
-found34-requires c κs = search needs
-
-found35-requires : tie.Need-found35-requires
-found35-requires c κs = search needs
-
-found36-requires : tie.Need-found36-requires
-found36-requires c κs = search needs
-
-found37-requires : tie.Need-found37-requires
-found37-requires c κs = search needs
-
-gather-requires : tie.Need-gather-requires
-gather-requires c κs = search needs
-
 returns : tie.Need-returns
 returns c =
     let s = c .before .before .before .before .before .before .before .before .before .before .before .before .before .before .before .before .before .before .before in
@@ -65,20 +17,7 @@ pub judge-spec : {M : Type 1} → statement M
 judge-spec =
     tie.close
     (tie.spec
-    type-place-requires
-    in-force-requires
-    read-shares-requires
-    found25-requires
-    found26-requires
-    found27-requires
-    found28-requires
-    found29-requires
-    found31-requires
-    found32-requires
-    found33-requires
-    found34-requires
-    found35-requires
-    found36-requires
-    found37-requires
-    gather-requires
-    returns)
+    (λ c κs. search needs) (λ c κs. search needs) (λ c κs. search needs) (λ c κs. search needs) (λ c κs. search needs)
+    (λ c κs. search needs) (λ c κs. search needs) (λ c κs. search needs) (λ c κs. search needs) (λ c κs. search needs)
+    (λ c κs. search needs) (λ c κs. search needs) (λ c κs. search needs) (λ c κs. search needs) (λ c κs. search needs)
+    (λ c κs. search needs) returns)

@@ -9,27 +9,6 @@ use borrow.Author.Needs.{needs}
 use Rattle.edits.proofs.publisher.sequence.Statement.{statement}
 use Rattle.edits.proofs.publisher.sequence.Tie as tie
 
-field-requires : tie.Need-field-requires
-field-requires c κs = search needs
-
-shared-slice-read-are-digits : tie.Need-shared-slice-read-are-digits
-shared-slice-read-are-digits c = search needs
-
-shared-slice-read-are-digits-2 : tie.Need-shared-slice-read-are-digits-2
-shared-slice-read-are-digits-2 c = search needs
-
-are-digits-requires : tie.Need-are-digits-requires
-are-digits-requires c κs = search needs
-
-shared-slice-read-number : tie.Need-shared-slice-read-number
-shared-slice-read-number c = search needs
-
-shared-slice-read-number-2 : tie.Need-shared-slice-read-number-2
-shared-slice-read-number-2 c = search needs
-
-number-requires : tie.Need-number-requires
-number-requires c κs = search needs
-
 returns : tie.Need-returns
 unfolding sequenceOf
 returns c =
@@ -50,12 +29,5 @@ pub sequence-spec : {M : Type 1} → statement M
 sequence-spec =
     tie.close
     (tie.spec
-    field-requires
-    shared-slice-read-are-digits
-    shared-slice-read-are-digits-2
-    are-digits-requires
-    shared-slice-read-number
-    shared-slice-read-number-2
-    number-requires
-    returns
-    returns-2)
+    (λ c κs. search needs) (λ c. search needs) (λ c. search needs) (λ c κs. search needs) (λ c. search needs) (λ c. search needs)
+    (λ c κs. search needs) returns returns-2)

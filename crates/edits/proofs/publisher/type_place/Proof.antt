@@ -9,33 +9,6 @@ use borrow.Author.Needs.{needs}
 use Rattle.edits.proofs.publisher.type_place.Statement.{statement}
 use Rattle.edits.proofs.publisher.type_place.Tie as tie
 
-field-requires : tie.Need-field-requires
-field-requires c κs = search needs
-
-shared-slice-read-first : tie.Need-shared-slice-read-first
-shared-slice-read-first c = search needs
-
-shared-slice-read-second : tie.Need-shared-slice-read-second
-shared-slice-read-second c = search needs
-
-pick-requires : tie.Need-pick-requires
-pick-requires c κs = search needs
-
-pick-requires-2 : tie.Need-pick-requires-2
-pick-requires-2 c κs = search needs
-
-pick-requires-3 : tie.Need-pick-requires-3
-pick-requires-3 c κs = search needs
-
-pick-requires-4 : tie.Need-pick-requires-4
-pick-requires-4 c κs = search needs
-
-pick-requires-5 : tie.Need-pick-requires-5
-pick-requires-5 c κs = search needs
-
-pick-requires-6 : tie.Need-pick-requires-6
-pick-requires-6 c κs = search needs
-
 returns : tie.Need-returns
 returns c =
     let f = c .before .before .before .before .before .before .before .before .field in
@@ -46,13 +19,5 @@ pub type-place-spec : {M : Type 1} → statement M
 type-place-spec =
     tie.close
     (tie.spec
-    field-requires
-    shared-slice-read-first
-    shared-slice-read-second
-    pick-requires
-    pick-requires-2
-    pick-requires-3
-    pick-requires-4
-    pick-requires-5
-    pick-requires-6
-    returns)
+    (λ c κs. search needs) (λ c. search needs) (λ c. search needs) (λ c κs. search needs) (λ c κs. search needs)
+    (λ c κs. search needs) (λ c κs. search needs) (λ c κs. search needs) (λ c κs. search needs) returns)

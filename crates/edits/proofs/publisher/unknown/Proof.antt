@@ -7,9 +7,6 @@ use borrow.Author.Needs.{needs}
 use Rattle.edits.proofs.publisher.unknown.Statement.{statement}
 use Rattle.edits.proofs.publisher.unknown.Tie as tie
 
-blank-requires : tie.Need-blank-requires
-blank-requires c κs = search needs
-
 returns : tie.Need-returns
 returns c = let s = c .before .before .before .before .before in λ t e. blank-not 3 (t .societies) (s .args .code .now) (sym (c .before .blank .ensures) ∙ c .if1 .taken)
 
@@ -22,4 +19,4 @@ returns-2 c =
     λ t e. rw e (entered-not 3 (s .args .societies .now) (s .args .code .now) (c .has .result) (sym (c .before .before .blank .ensures) ∙ c .before .if1 .left) (s .pre .0) (c .has .ensures))
 
 pub unknown-spec : {M : Type 1} → statement M
-unknown-spec = tie.close (tie.spec blank-requires returns has-requires returns-2)
+unknown-spec = tie.close (tie.spec (λ c κs. search needs) returns has-requires returns-2)

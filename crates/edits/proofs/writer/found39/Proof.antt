@@ -6,12 +6,9 @@ use borrow.Author.Needs.{needs}
 use Rattle.edits.proofs.writer.found39.Statement.{statement}
 use Rattle.edits.proofs.writer.found39.Tie as tie
 
-is-swr-requires : tie.Need-is-swr-requires
-is-swr-requires c κs = search needs
-
 returns : tie.Need-returns
 unfolding is39
 returns c = cc (no-designation (c .before .before .args .record .now))
 
 pub found39-spec : {M : Type 1} → statement M
-found39-spec = tie.close (tie.spec is-swr-requires returns)
+found39-spec = tie.close (tie.spec (λ c κs. search needs) returns)

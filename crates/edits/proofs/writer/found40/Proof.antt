@@ -6,18 +6,9 @@ use borrow.Author.Needs.{needs}
 use Rattle.edits.proofs.writer.found40.Statement.{statement}
 use Rattle.edits.proofs.writer.found40.Tie as tie
 
-is-swr-requires : tie.Need-is-swr-requires
-is-swr-requires c κs = search needs
-
-field-requires : tie.Need-field-requires
-field-requires c κs = search needs
-
-blank-requires : tie.Need-blank-requires
-blank-requires c κs = search needs
-
 returns : tie.Need-returns
 unfolding is40
 returns c = cc (no-designation (c .before .before .before .before .args .record .now))
 
 pub found40-spec : {M : Type 1} → statement M
-found40-spec = tie.close (tie.spec is-swr-requires field-requires blank-requires returns)
+found40-spec = tie.close (tie.spec (λ c κs. search needs) (λ c κs. search needs) (λ c κs. search needs) returns)

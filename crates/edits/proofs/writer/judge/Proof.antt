@@ -5,27 +5,6 @@ use borrow.Author.Needs.{needs}
 use Rattle.edits.proofs.writer.judge.Statement.{statement}
 use Rattle.edits.proofs.writer.judge.Tie as tie
 
-designation-in-force-requires : tie.Need-designation-in-force-requires
-designation-in-force-requires c κs = search needs
-
-found38-requires : tie.Need-found38-requires
-found38-requires c κs = search needs
-
-found39-requires : tie.Need-found39-requires
-found39-requires c κs = search needs
-
-found40-requires : tie.Need-found40-requires
-found40-requires c κs = search needs
-
-found41-requires : tie.Need-found41-requires
-found41-requires c κs = search needs
-
-found42-requires : tie.Need-found42-requires
-found42-requires c κs = search needs
-
-gather-requires : tie.Need-gather-requires
-gather-requires c κs = search needs
-
 returns : tie.Need-returns
 returns c =
     let s = c .before .before .before .before .before .before .before .before in
@@ -38,11 +17,5 @@ pub judge-spec : {M : Type 1} → statement M
 judge-spec =
     tie.close
     (tie.spec
-    designation-in-force-requires
-    found38-requires
-    found39-requires
-    found40-requires
-    found41-requires
-    found42-requires
-    gather-requires
-    returns)
+    (λ c κs. search needs) (λ c κs. search needs) (λ c κs. search needs) (λ c κs. search needs) (λ c κs. search needs)
+    (λ c κs. search needs) (λ c κs. search needs) returns)

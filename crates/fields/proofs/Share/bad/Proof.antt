@@ -5,15 +5,9 @@ use borrow.Author.Needs.{needs}
 use Rattle.fields.proofs.Share.bad.Statement.{statement}
 use Rattle.fields.proofs.Share.bad.Tie as tie
 
-read-requires : tie.Need-read-requires
-read-requires c κs = search needs
-
-over-requires : tie.Need-over-requires
-over-requires c κs = search needs
-
 returns : tie.Need-returns
 unfolding badShare
 returns c = cc
 
 pub bad-spec : {M : Type 1} → statement M
-bad-spec = tie.close (tie.spec read-requires over-requires returns)
+bad-spec = tie.close (tie.spec (λ c κs. search needs) (λ c κs. search needs) returns)

@@ -7,9 +7,6 @@ use borrow.Author.Needs.{needs}
 use Rattle.fields.proofs.Share.of.Statement.{statement}
 use Rattle.fields.proofs.Share.of.Tie as tie
 
-read-requires : tie.Need-read-requires
-read-requires c κs = search needs
-
 returns : tie.Need-returns
 unfolding shareOf
 returns c =
@@ -23,4 +20,4 @@ returns-2 c =
     (rw d, omega arith)
 
 pub of-spec : {M : Type 1} → statement M
-of-spec = tie.close (tie.spec read-requires returns returns-2)
+of-spec = tie.close (tie.spec (λ c κs. search needs) returns returns-2)

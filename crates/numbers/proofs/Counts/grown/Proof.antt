@@ -9,12 +9,6 @@ use borrow.Author.Needs.{needs}
 use Rattle.numbers.proofs.Counts.grown.Statement.{statement}
 use Rattle.numbers.proofs.Counts.grown.Tie as tie
 
-pick-requires : tie.Need-pick-requires
-pick-requires c κs = search needs
-
-pick-requires-2 : tie.Need-pick-requires-2
-pick-requires-2 c κs = search needs
-
 next-eight-requires : tie.Need-next-eight-requires
 next-eight-requires c κs =
     let g = c .before .before in
@@ -26,4 +20,4 @@ returns : tie.Need-returns
 returns c = c .next-eight .ensures ∙ ap (λ (k : ℕ). wordOf (decimal 8 (k + 1))) (c .before .pick2 .ensures)
 
 pub grown-spec : {M : Type 1} → statement M
-grown-spec = tie.close (tie.spec pick-requires pick-requires-2 next-eight-requires returns)
+grown-spec = tie.close (tie.spec (λ c κs. search needs) (λ c κs. search needs) next-eight-requires returns)

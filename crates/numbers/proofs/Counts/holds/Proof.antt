@@ -7,9 +7,6 @@ use Rattle.format.specs.Fields.{fieldOf}
 use Rattle.numbers.proofs.Counts.holds.Statement.{statement}
 use Rattle.numbers.proofs.Counts.holds.Tie as tie
 
-numbers-for-requires : tie.Need-numbers-for-requires
-numbers-for-requires c κs = search needs
-
 stand-in-requires : tie.Need-stand-in-requires
 stand-in-requires c κs = let r = c .numbers-for .ensures in omega (arith, r .place, r .wide)
 
@@ -18,4 +15,4 @@ unfolding fieldOf
 returns c = let r = c .before .numbers-for .ensures in c .stand-in .ensures ∙ rw (r .place, r .wide, r .right)
 
 pub holds-spec : {M : Type 1} → statement M
-holds-spec = tie.close (tie.spec numbers-for-requires stand-in-requires returns)
+holds-spec = tie.close (tie.spec (λ c κs. search needs) stand-in-requires returns)

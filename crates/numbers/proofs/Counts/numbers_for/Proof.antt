@@ -12,12 +12,6 @@ use borrow.Author.Needs.{needs}
 use Rattle.numbers.proofs.Counts.numbers_for.Statement.{statement}
 use Rattle.numbers.proofs.Counts.numbers_for.Tie as tie
 
-add-t4 : tie.Need-add-t4
-add-t4 c = search needs
-
-add-t5 : tie.Need-add-t5
-add-t5 c = search needs
-
 returns : tie.Need-returns
 returns c = rw (c .before .match .keys1) (record { right = ap (decimal 5) (add-one _); place = refl; wide = refl })
 
@@ -48,4 +42,4 @@ returns-6 c =
 
 pub numbers-for-spec : {M : Type 1} → statement M
 numbers-for-spec =
-    tie.close (tie.spec add-t4 add-t5 returns returns-2 returns-3 returns-4 returns-5 returns-6)
+    tie.close (tie.spec (λ c. search needs) (λ c. search needs) returns returns-2 returns-3 returns-4 returns-5 returns-6)

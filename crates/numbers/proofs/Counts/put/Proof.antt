@@ -8,14 +8,8 @@ use Rattle.numbers.specs.Carried.{over}
 use Rattle.numbers.proofs.Counts.put.Statement.{statement}
 use Rattle.numbers.proofs.Counts.put.Tie as tie
 
-numbers-for-requires : tie.Need-numbers-for-requires
-numbers-for-requires c κs = search needs
-
 write-into-requires : tie.Need-write-into-requires
 write-into-requires c κs = let r = c .before .numbers-for .ensures in omega (arith, r .place, r .wide)
-
-same-length : tie.Need-same-length
-same-length c = search needs
 
 returns : tie.Need-returns
 unfolding over
@@ -24,4 +18,4 @@ returns c =
     c .before .before .write-into .ensures ∙ rw (r .place, r .right, expected-length)
 
 pub put-spec : {M : Type 1} → statement M
-put-spec = tie.close (tie.spec numbers-for-requires write-into-requires same-length returns)
+put-spec = tie.close (tie.spec (λ c κs. search needs) write-into-requires (λ c. search needs) returns)

@@ -10,35 +10,8 @@ use Rattle.numbers.proofs.Counts.with.Tie as tie
 grown-requires : tie.Need-grown-requires
 grown-requires c κs = c .pre .0 .1
 
-add-next-eight : tie.Need-add-next-eight
-add-next-eight c = search needs
-
 next-eight-requires : tie.Need-next-eight-requires
 next-eight-requires c κs = c .before .before .pre .0 .1 .3
-
-add-self : tie.Need-add-self
-add-self c = search needs
-
-add-self-2 : tie.Need-add-self-2
-add-self-2 c = search needs
-
-add-self-3 : tie.Need-add-self-3
-add-self-3 c = search needs
-
-add-self-4 : tie.Need-add-self-4
-add-self-4 c = search needs
-
-add-self-5 : tie.Need-add-self-5
-add-self-5 c = search needs
-
-add-self-6 : tie.Need-add-self-6
-add-self-6 c = search needs
-
-add-self-7 : tie.Need-add-self-7
-add-self-7 c = search needs
-
-add-self-8 : tie.Need-add-self-8
-add-self-8 c = search needs
 
 returns : tie.Need-returns
 returns c =
@@ -73,17 +46,6 @@ pub with-spec : {M : Type 1} → statement M
 with-spec =
     tie.close
     (tie.spec
-    grown-requires
-    add-next-eight
-    next-eight-requires
-    add-self
-    add-self-2
-    add-self-3
-    add-self-4
-    add-self-5
-    add-self-6
-    add-self-7
-    add-self-8
-    returns
-    returns-2
+    grown-requires (λ c. search needs) next-eight-requires (λ c. search needs) (λ c. search needs) (λ c. search needs)
+    (λ c. search needs) (λ c. search needs) (λ c. search needs) (λ c. search needs) (λ c. search needs) returns returns-2
     returns-3)

@@ -10,29 +10,17 @@ use borrow.Author.Needs.{needs}
 use Rattle.numbers.proofs.Numbers.stand_in.Statement.{statement}
 use Rattle.numbers.proofs.Numbers.stand_in.Tie as tie
 
-enum-told : tie.Need-enum-told
-enum-told c = search needs
-
-enum-known-self : tie.Need-enum-known-self
-enum-known-self c = search needs
-
 stands-requires : tie.Need-stands-requires
 stands-requires c κs =
     let at = c .before in
     let h = rw (at .self .given .1) at (at .before .before .before .pre) in
     omega (arith, h)
 
-enum-known-self-2 : tie.Need-enum-known-self-2
-enum-known-self-2 c = search needs
-
 words-stand-requires : tie.Need-words-stand-requires
 words-stand-requires c κs =
     let at = c .before in
     let h = rw (at .self2 .given .1) at (at .before .before .before .pre) in
     omega (arith, h)
-
-enum-known-self-3 : tie.Need-enum-known-self-3
-enum-known-self-3 c = search needs
 
 stands-requires-2 : tie.Need-stands-requires-2
 stands-requires-2 c κs =
@@ -45,9 +33,6 @@ words-stand-requires-2 c κs =
     let at = c .before .before in
     let h = rw (at .self3 .given .1) at (at .before .before .before .pre) in
     omega (arith, h)
-
-enum-known-self-4 : tie.Need-enum-known-self-4
-enum-known-self-4 c = search needs
 
 stands-requires-3 : tie.Need-stands-requires-3
 stands-requires-3 c κs =
@@ -95,19 +80,6 @@ pub stand-in-spec : {M : Type 1} → statement M
 stand-in-spec =
     tie.close
     (tie.spec
-    enum-told
-    enum-known-self
-    stands-requires
-    enum-known-self-2
-    words-stand-requires
-    enum-known-self-3
-    stands-requires-2
-    words-stand-requires-2
-    enum-known-self-4
-    stands-requires-3
-    pair-stands-requires
-    returns
-    returns-2
-    returns-3
-    returns-4
-    returns-5)
+    (λ c. search needs) (λ c. search needs) stands-requires (λ c. search needs) words-stand-requires (λ c. search needs)
+    stands-requires-2 words-stand-requires-2 (λ c. search needs) stands-requires-3 pair-stands-requires returns returns-2
+    returns-3 returns-4 returns-5)

@@ -9,29 +9,17 @@ use borrow.Author.Needs.{needs}
 use Rattle.numbers.proofs.Numbers.write_into.Statement.{statement}
 use Rattle.numbers.proofs.Numbers.write_into.Tie as tie
 
-enum-told : tie.Need-enum-told
-enum-told c = search needs
-
-enum-known-self : tie.Need-enum-known-self
-enum-known-self c = search needs
-
 write-requires : tie.Need-write-requires
 write-requires c κs =
     let at = c .before .before in
     let h = rw (at .self .given .1) at (at .before .before .before .pre) in
     omega (arith, h)
 
-enum-known-self-2 : tie.Need-enum-known-self-2
-enum-known-self-2 c = search needs
-
 write-words-requires : tie.Need-write-words-requires
 write-words-requires c κs =
     let at = c .before .before in
     let h = rw (at .self2 .given .1) at (at .before .before .before .pre) in
     omega (arith, h)
-
-enum-known-self-3 : tie.Need-enum-known-self-3
-enum-known-self-3 c = search needs
 
 write-requires-2 : tie.Need-write-requires-2
 write-requires-2 c κs =
@@ -44,9 +32,6 @@ write-words-requires-2 c κs =
     let at = c .before .before .before .before .before .before in
     let h = rw (at .self3 .given .1) at (at .before .before .before .pre) in
     omega (arith, h)
-
-enum-known-self-4 : tie.Need-enum-known-self-4
-enum-known-self-4 c = search needs
 
 write-requires-3 : tie.Need-write-requires-3
 write-requires-3 c κs =
@@ -63,20 +48,11 @@ write-pair-requires c κs =
 returns : tie.Need-returns
 returns c = rw (c .enum-told .given .1) (over-nothing 4 _)
 
-same-length : tie.Need-same-length
-same-length c = search needs
-
 returns-2 : tie.Need-returns-2
 returns-2 c = rw (c .before .before .before .before .before .self .given .1) (c .before .before .write .ensures)
 
-same-length-2 : tie.Need-same-length-2
-same-length-2 c = search needs
-
 returns-3 : tie.Need-returns-3
 returns-3 c = rw (c .before .before .before .before .before .self2 .given .1) (c .before .before .write-words .ensures)
-
-same-length-3 : tie.Need-same-length-3
-same-length-3 c = search needs
 
 returns-4 : tie.Need-returns-4
 returns-4 c =
@@ -87,9 +63,6 @@ returns-4 c =
     rw (at .self3 .given .1)
     (written (entry .args .out .now) 4 5 (decimal 5 (g .0)) (length-decimal 5 (g .0)) (words (g .1 .0) (g .1 .1 .0)) 16 (omega arith) (omega (arith, h)) _ _
     (c .before .before .before .before .before .before .write2 .ensures) (c .before .before .write-words2 .ensures))
-
-same-length-4 : tie.Need-same-length-4
-same-length-4 c = search needs
 
 returns-5 : tie.Need-returns-5
 returns-5 c =
@@ -105,23 +78,6 @@ pub write-into-spec : {M : Type 1} → statement M
 write-into-spec =
     tie.close
     (tie.spec
-    enum-told
-    enum-known-self
-    write-requires
-    enum-known-self-2
-    write-words-requires
-    enum-known-self-3
-    write-requires-2
-    write-words-requires-2
-    enum-known-self-4
-    write-requires-3
-    write-pair-requires
-    returns
-    same-length
-    returns-2
-    same-length-2
-    returns-3
-    same-length-3
-    returns-4
-    same-length-4
-    returns-5)
+    (λ c. search needs) (λ c. search needs) write-requires (λ c. search needs) write-words-requires (λ c. search needs)
+    write-requires-2 write-words-requires-2 (λ c. search needs) write-requires-3 write-pair-requires returns (λ c. search needs)
+    returns-2 (λ c. search needs) returns-3 (λ c. search needs) returns-4 (λ c. search needs) returns-5)

@@ -9,29 +9,11 @@ use Rattle.order.proofs.Order.with.Tie as tie
 returns : tie.Need-returns
 returns c ds r its d stands = stays (c .before .before .args .self) (c .before .before .args .row) ds r its d stands (c .if1 .taken)
 
-takes-requires : tie.Need-takes-requires
-takes-requires c κs = search needs
-
-moved-requires : tie.Need-moved-requires
-moved-requires c κs = search needs
-
 returns-2 : tie.Need-returns-2
 returns-2 c ds r its d stands = rw (c .moved .ensures) (rw (sym (c .before .before .takes .ensures) ∙ c .before .if2 .taken) at (goes (c .before .before .before .before .before .args .self) (c .before .before .before .before .before .args .row) ds r its d stands (c .before .before .before .if1 .left)))
 
-takes-requires-2 : tie.Need-takes-requires-2
-takes-requires-2 c κs = search needs
-
-moved-requires-2 : tie.Need-moved-requires-2
-moved-requires-2 c κs = search needs
-
 returns-3 : tie.Need-returns-3
 returns-3 c ds r its d stands = rw (c .moved2 .ensures) (rw (sym (c .before .before .before .before .takes .ensures) ∙ c .before .before .before .if2 .left, sym (c .before .before .takes2 .ensures) ∙ c .before .if3 .taken) at (goes (c .before .before .before .before .before .before .before .args .self) (c .before .before .before .before .before .before .before .args .row) ds r its d stands (c .before .before .before .before .before .if1 .left)))
-
-takes-requires-3 : tie.Need-takes-requires-3
-takes-requires-3 c κs = search needs
-
-moved-requires-3 : tie.Need-moved-requires-3
-moved-requires-3 c κs = search needs
 
 returns-4 : tie.Need-returns-4
 returns-4 c ds r its d stands =
@@ -47,14 +29,5 @@ pub with-spec : {M : Type 1} → statement M
 with-spec =
     tie.close
     (tie.spec
-    returns
-    takes-requires
-    moved-requires
-    returns-2
-    takes-requires-2
-    moved-requires-2
-    returns-3
-    takes-requires-3
-    moved-requires-3
-    returns-4
-    returns-5)
+    returns (λ c κs. search needs) (λ c κs. search needs) returns-2 (λ c κs. search needs) (λ c κs. search needs) returns-3
+    (λ c κs. search needs) (λ c κs. search needs) returns-4 returns-5)

@@ -6,9 +6,6 @@ use Rattle.steps.proofs.Laws.{chained, unchained}
 use Rattle.steps.proofs.Publisher.is_known.Statement.{statement}
 use Rattle.steps.proofs.Publisher.is_known.Tie as tie
 
-knows-e-requires : tie.Need-knows-e-requires
-knows-e-requires c κs = search needs
-
 returns : tie.Need-returns
 returns c ds r t p = c .knows-e .ensures ds r t (chained (c .before .before .before .args .self) r p (c .before .if1 .taken))
 
@@ -16,4 +13,4 @@ returns-2 : tie.Need-returns-2
 returns-2 c ds r t p = sym (knows-none r ds (unchained (c .before .before .args .self) r p (c .if1 .left)))
 
 pub is-known-spec : {M : Type 1} → statement M
-is-known-spec = tie.close (tie.spec knows-e-requires returns returns-2)
+is-known-spec = tie.close (tie.spec (λ c κs. search needs) returns returns-2)

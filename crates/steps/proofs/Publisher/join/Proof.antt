@@ -7,15 +7,6 @@ use Rattle.steps.proofs.Laws.{chained, unchained, summed}
 use Rattle.steps.proofs.Publisher.join.Statement.{statement}
 use Rattle.steps.proofs.Publisher.join.Tie as tie
 
-add-join : tie.Need-add-join
-add-join c = search needs
-
-add-join-2 : tie.Need-add-join-2
-add-join-2 c = search needs
-
-join-requires : tie.Need-join-requires
-join-requires c κs = search needs
-
 returns : tie.Need-returns
 returns c ds r t p =
     c .join .ensures ds r t (chained (c .before .before .before .before .before .before .before .before .before .before .before .args .self) r p (c .before .before .before .before .before .before .before .before .if1 .taken)) (sym (p .spu)) (sym (p .e)) (sym (p .aq)) (summed (c .before .before .before .before .before .before .before .before .before .before .before .args .self) r p)
@@ -26,4 +17,4 @@ returns-2 c ds r t p =
     no-number (chainsOf (a .begun .now) (a .es .now) (a .own .now) (a .paid .now) (a .sums .now) (a .met)) ds r t (unchained (a .self) r p (c .if1 .left))
 
 pub join-spec : {M : Type 1} → statement M
-join-spec = tie.close (tie.spec add-join add-join-2 join-requires returns returns-2)
+join-spec = tie.close (tie.spec (λ c. search needs) (λ c. search needs) (λ c κs. search needs) returns returns-2)

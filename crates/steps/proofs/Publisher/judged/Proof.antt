@@ -3,12 +3,6 @@ use borrow.Author.Needs.{needs}
 use Rattle.steps.proofs.Publisher.judged.Statement.{statement}
 use Rattle.steps.proofs.Publisher.judged.Tie as tie
 
-judge-requires : tie.Need-judge-requires
-judge-requires c κs = search needs
-
-with-publisher-requires : tie.Need-with-publisher-requires
-with-publisher-requires c κs = search needs
-
 returns : tie.Need-returns
 returns c t ds s k d p q =
     record {
@@ -17,4 +11,4 @@ returns c t ds s k d p q =
     }
 
 pub judged-spec : {M : Type 1} → statement M
-judged-spec = tie.close (tie.spec judge-requires with-publisher-requires returns)
+judged-spec = tie.close (tie.spec (λ c κs. search needs) (λ c κs. search needs) returns)

@@ -6,18 +6,6 @@ use Rattle.edits.proofs.Places.{type-E, type-AQ}
 use Rattle.steps.proofs.Publisher.read.Statement.{statement}
 use Rattle.steps.proofs.Publisher.read.Tie as tie
 
-type-in-force-requires : tie.Need-type-in-force-requires
-type-in-force-requires c κs = search needs
-
-rights-at-requires : tie.Need-rights-at-requires
-rights-at-requires c κs = search needs
-
-is-spu-requires : tie.Need-is-spu-requires
-is-spu-requires c κs = search needs
-
-sequence-requires : tie.Need-sequence-requires
-sequence-requires c κs = search needs
-
 returns : tie.Need-returns
 returns c =
     let r = c .before .before .before .before .before .args .record .now in
@@ -31,4 +19,4 @@ returns c =
     }
 
 pub read-spec : {M : Type 1} → statement M
-read-spec = tie.close (tie.spec type-in-force-requires rights-at-requires is-spu-requires sequence-requires returns)
+read-spec = tie.close (tie.spec (λ c κs. search needs) (λ c κs. search needs) (λ c κs. search needs) (λ c κs. search needs) returns)

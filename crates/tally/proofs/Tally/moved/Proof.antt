@@ -6,9 +6,6 @@ use Rattle.tally.proofs.Laws.{below-kept, last-kept}
 use Rattle.tally.proofs.Tally.moved.Statement.{statement}
 use Rattle.tally.proofs.Tally.moved.Tie as tie
 
-with-requires : tie.Need-with-requires
-with-requires c κs = search needs
-
 returns : tie.Need-returns
 returns c ds r k d p w m =
     record {
@@ -20,4 +17,4 @@ returns c ds r k d p w m =
     }
 
 pub moved-spec : {M : Type 1} → statement M
-moved-spec = tie.close (tie.spec with-requires returns)
+moved-spec = tie.close (tie.spec (λ c κs. search needs) returns)

@@ -5,19 +5,10 @@ use Rattle.edits.specs.Before.{lastSequence}
 use Rattle.tally.proofs.Tally.start.Statement.{statement}
 use Rattle.tally.proofs.Tally.start.Tie as tie
 
-zero-requires : tie.Need-zero-requires
-zero-requires c κs = search needs
-
-outset-requires : tie.Need-outset-requires
-outset-requires c κs = search needs
-
-none-requires : tie.Need-none-requires
-none-requires c κs = search needs
-
 returns : tie.Need-returns
 unfolding lastSequence
 returns c =
     record { totals = c .before .before .zero .ensures .0; below = c .before .before .zero .ensures .1; order = c .before .outset .ensures; marks = c .none .ensures; last = refl }
 
 pub start-spec : {M : Type 1} → statement M
-start-spec = tie.close (tie.spec zero-requires outset-requires none-requires returns)
+start-spec = tie.close (tie.spec (λ c κs. search needs) (λ c κs. search needs) (λ c κs. search needs) returns)

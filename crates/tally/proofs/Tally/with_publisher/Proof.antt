@@ -9,12 +9,6 @@ use Rattle.tally.proofs.Laws.{publisher-unmarked, below-on, last-on}
 use Rattle.tally.proofs.Tally.with_publisher.Statement.{statement}
 use Rattle.tally.proofs.Tally.with_publisher.Tie as tie
 
-with-publisher-requires : tie.Need-with-publisher-requires
-with-publisher-requires c κs = search needs
-
-with-requires : tie.Need-with-requires
-with-requires c κs = search needs
-
 returns : tie.Need-returns
 returns c ds r k d p q s =
     let (i, e, v) = publisher-unmarked r p in
@@ -27,4 +21,4 @@ returns c ds r k d p q s =
     }
 
 pub with-publisher-spec : {M : Type 1} → statement M
-with-publisher-spec = tie.close (tie.spec with-publisher-requires with-requires returns)
+with-publisher-spec = tie.close (tie.spec (λ c κs. search needs) (λ c κs. search needs) returns)

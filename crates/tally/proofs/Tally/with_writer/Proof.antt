@@ -9,15 +9,6 @@ use Rattle.tally.proofs.Laws.{creator-at, changer-at, author-at, below-
 use Rattle.tally.proofs.Tally.with_writer.Statement.{statement}
 use Rattle.tally.proofs.Tally.with_writer.Tie as tie
 
-with-writer-requires : tie.Need-with-writer-requires
-with-writer-requires c κs = search needs
-
-with-requires : tie.Need-with-requires
-with-requires c κs = search needs
-
-with-writer-requires-2 : tie.Need-with-writer-requires-2
-with-writer-requires-2 c κs = search needs
-
 returns : tie.Need-returns
 returns c ds r k d p q s =
     let code = designationInForce r in
@@ -30,4 +21,4 @@ returns c ds r k d p q s =
     }
 
 pub with-writer-spec : {M : Type 1} → statement M
-with-writer-spec = tie.close (tie.spec with-writer-requires with-requires with-writer-requires-2 returns)
+with-writer-spec = tie.close (tie.spec (λ c κs. search needs) (λ c κs. search needs) (λ c κs. search needs) returns)

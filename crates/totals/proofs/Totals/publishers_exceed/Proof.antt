@@ -4,18 +4,9 @@ use Rattle.rules.specs.Totals.{is1}
 use Rattle.totals.proofs.Totals.publishers_exceed.Statement.{statement}
 use Rattle.totals.proofs.Totals.publishers_exceed.Tie as tie
 
-at-most-requires : tie.Need-at-most-requires
-at-most-requires c κs = search needs
-
-at-most-requires-2 : tie.Need-at-most-requires-2
-at-most-requires-2 c κs = search needs
-
-at-most-requires-3 : tie.Need-at-most-requires-3
-at-most-requires-3 c κs = search needs
-
 returns : tie.Need-returns
 unfolding is1
 returns c ds s = rw (c .before .before .at-most .ensures, c .before .at-most2 .ensures, c .at-most3 .ensures, s .publishers)
 
 pub publishers-exceed-spec : {M : Type 1} → statement M
-publishers-exceed-spec = tie.close (tie.spec at-most-requires at-most-requires-2 at-most-requires-3 returns)
+publishers-exceed-spec = tie.close (tie.spec (λ c κs. search needs) (λ c κs. search needs) (λ c κs. search needs) returns)

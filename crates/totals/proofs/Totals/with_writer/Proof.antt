@@ -5,9 +5,6 @@ use Rattle.totals.proofs.Laws.{sums-writer}
 use Rattle.totals.proofs.Totals.with_writer.Statement.{statement}
 use Rattle.totals.proofs.Totals.with_writer.Tie as tie
 
-with-requires : tie.Need-with-requires
-with-requires c κs = search needs
-
 returns : tie.Need-returns
 returns c = (
   λ ds r s e q. rw (c .with .ensures) (sums-writer (c .before .before .args .self) ds r s (c .before .before .args .shares) e q),
@@ -15,4 +12,4 @@ returns c = (
 )
 
 pub with-writer-spec : {M : Type 1} → statement M
-with-writer-spec = tie.close (tie.spec with-requires returns)
+with-writer-spec = tie.close (tie.spec (λ c κs. search needs) returns)

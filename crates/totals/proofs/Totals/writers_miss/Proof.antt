@@ -4,21 +4,9 @@ use Rattle.rules.specs.Totals.{is2}
 use Rattle.totals.proofs.Totals.writers_miss.Statement.{statement}
 use Rattle.totals.proofs.Totals.writers_miss.Tie as tie
 
-at-least-requires : tie.Need-at-least-requires
-at-least-requires c κs = search needs
-
-at-most-requires : tie.Need-at-most-requires
-at-most-requires c κs = search needs
-
-at-most-requires-2 : tie.Need-at-most-requires-2
-at-most-requires-2 c κs = search needs
-
-at-most-requires-3 : tie.Need-at-most-requires-3
-at-most-requires-3 c κs = search needs
-
 returns : tie.Need-returns
 unfolding is2
 returns c ds s = rw (c .before .before .before .at-least .ensures, c .before .before .at-most .ensures, c .before .at-most2 .ensures, c .at-most3 .ensures, s .writers)
 
 pub writers-miss-spec : {M : Type 1} → statement M
-writers-miss-spec = tie.close (tie.spec at-least-requires at-most-requires at-most-requires-2 at-most-requires-3 returns)
+writers-miss-spec = tie.close (tie.spec (λ c κs. search needs) (λ c κs. search needs) (λ c κs. search needs) (λ c κs. search needs) returns)

@@ -6,12 +6,9 @@ use Rattle.rules.specs.Totals.{publishersTotal, writersTotal}
 use Rattle.totals.proofs.Totals.zero.Statement.{statement}
 use Rattle.totals.proofs.Totals.zero.Tie as tie
 
-none-requires : tie.Need-none-requires
-none-requires c κs = search needs
-
 returns : tie.Need-returns
 unfolding publishersTotal writersTotal
 returns c = rw (c .none .ensures) (record { publishers = refl; writers = refl }, ((omega arith, omega arith, omega arith), (omega arith, omega arith, omega arith)))
 
 pub zero-spec : {M : Type 1} → statement M
-zero-spec = tie.close (tie.spec none-requires returns)
+zero-spec = tie.close (tie.spec (λ c κs. search needs) returns)
