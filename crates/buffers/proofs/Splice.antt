@@ -4,12 +4,16 @@ use mathlib.Core.List.{List, [], _∷_, _++_, append-assoc}
 use Prim.Native.Nat.{ℕ, _+_, _<_, _≤_}
 use native.Mathlib.Numerals.{add-one}
 use native.Mathlib.Omega.{arith}
-use lib.ListN.{length, take, drop, set, length-append, length-drop}
+use lib.ListN.{length, take, drop, set, length-append, length-drop, take-append-drop}
 use lib.Seq.{length-take-le, take-at, drop-at, drop-append-add, drop-drop, take-take, set-split}
 use borrow.Rule.Slice.PartMut.{putMid}
 use Rattle.format.specs.Lent.{splice}
 
 module _ {A : Type 0} where
+  pub splice-nil : (a : ℕ) (l : List A) → splice a [] l ≡ l
+  unfolding splice
+  splice-nil a l = let q : a + 0 ≡ a = omega arith in rw q (take-append-drop a l)
+
   -- one store
   pub set-splice : (a : ℕ) (x : A) (l : List A) → a < length l → set l a x ≡ splice a (x ∷ []) l
   unfolding splice

@@ -16,7 +16,7 @@ pub fn settle(index: usize, set: u64, verdict: u8, verdicts: &mut [u8], findings
     verdicts[index] = verdict;
     let end = 8 * (index + 1);
     let start = end - 8;
-    sets::put(set, &mut findings[start..end]);
+    findings::put(set, &mut findings[start..end]);
 }
 
 // The larger of two. It only picks, so that the loop of `raise` is compiled to a maximum of sixteen verdicts at once.

@@ -25,7 +25,7 @@ use Rattle.answers.specs.Numbers.{isPassed}
 use Rattle.structure.specs.Cursor.{Here}
 use Rattle.structure.proofs.Cursor.{here-start}
 use Rattle.buffers.specs.Written.{Written}
-use Rattle.works.specs.Walk.{restAt, Room}
+use Rattle.transactions.specs.Walk.{restAt, Room}
 
 -- ---- 11
 

@@ -5,7 +5,7 @@ use mathlib.Core.List.{List}
 use lib.ListN.{length, take, drop}
 use Rattle.format.specs.Bytes.{Bytes}
 use Rattle.rules.specs.Tables.{languageSize, societySize, categorySize}
-use Rattle.lookup.specs.Index.{slotCount, Indexed}
+use Rattle.tables.specs.Index.{slotCount, Indexed}
 
 pub record AllIndexed (languages societies categories : Bytes) (slots : List ℕ) : Type 0 where
   pub long : length slots ≡ 12288

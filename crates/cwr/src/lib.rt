@@ -1,7 +1,7 @@
 // The library: the calls that are open to others. Each takes whatever it is lent, and its contract states the entire outcome, by one of the
 // promises in specs/Promises.antt.
 use answers::Answer;
-use fields::Share;
+use values::Share;
 ghost use mathlib.Core.Path.{_≡_};
 ghost use mathlib.Core.Bool.{true};
 ghost use Prim.Native.Nat.{_≤_};
@@ -16,7 +16,7 @@ ghost use Rattle.rules.specs.Outcome.{enough, answer as Outcome·answer, conten
 ghost use Rattle.answers.specs.Numbers.{answerOf};
 ghost use Rattle.structure.specs.Cursor.{Here};
 ghost use Rattle.buffers.specs.Written.{Written};
-ghost use Rattle.works.specs.Walk.{restAt, Room};
+ghost use Rattle.transactions.specs.Walk.{restAt, Room};
 ghost use Rattle.cwr.specs.Indexes.{AllIndexed};
 ghost use Rattle.cwr.specs.Promises.{Checked, Numbered, Counted, Lowest};
 
@@ -56,13 +56,13 @@ fn answer(
     if !Share::is_tolerance(tolerance) {
         return Answer::Tolerance;
     }
-    if !lookup::right(languages, LANGUAGE) {
+    if !tables::right(languages, LANGUAGE) {
         return Answer::Table(0);
     }
-    if !lookup::right(societies, SOCIETY) {
+    if !tables::right(societies, SOCIETY) {
         return Answer::Table(1);
     }
-    if !lookup::right(categories, CATEGORY) {
+    if !tables::right(categories, CATEGORY) {
         return Answer::Table(2);
     }
     in_room(structure::check(file), verdicts, findings)
@@ -75,9 +75,9 @@ fn index_all(languages: &[u8], societies: &[u8], categories: &[u8], slots: &mut 
     requires { ⌜ (rightTable languageSize (now languages) ≡ true) × (rightTable societySize (now societies) ≡ true) × (rightTable categorySize (now categories) ≡ true) × (length (now slots) ≡ 12288) ⌝ }
     ensures { λ _. ⌜ AllIndexed (now (languages .entry)) (now (societies .entry)) (now (categories .entry)) (now (slots .exit)) ⌝ }
 {
-    lookup::index(languages, LANGUAGE, &mut slots[0..4096]);
-    lookup::index(societies, SOCIETY, &mut slots[4096..8192]);
-    lookup::index(categories, CATEGORY, &mut slots[8192..12288]);
+    tables::index(languages, LANGUAGE, &mut slots[0..4096]);
+    tables::index(societies, SOCIETY, &mut slots[4096..8192]);
+    tables::index(categories, CATEGORY, &mut slots[8192..12288]);
 }
 
 // Judges with those indexes.
@@ -208,12 +208,12 @@ pub fn number(file: &[u8], out: &mut [u8]) -> Answer
 pub fn count(set: u64) -> u32
     ensures { λ r. ⌜ Counted set r ⌝ }
 {
-    sets::count(set)
+    findings::count(set)
 }
 
 // The lowest of them; 64 where there is none.
 pub fn lowest(set: u64) -> u32
     ensures { λ r. ⌜ Lowest set r ⌝ }
 {
-    sets::lowest(set)
+    findings::lowest(set)
 }

@@ -16,7 +16,7 @@ use Rattle.rules.specs.Records.{isPublisher, only, latest}
 use Rattle.rules.specs.Publisher.{sequenceNumber, follows, is25}
 use Rattle.format.proofs.Tests.{by-cases}
 use Rattle.rules.proofs.Fields.{field-short, two-below}
-use Rattle.fields.proofs.Laws.{spelled}
+use Rattle.values.proofs.Laws.{spelled}
 use Rattle.edits.specs.Before.{sequenceOf, sequenceOr101, lastSequence}
 
 -- ---- two digits write a number below 100

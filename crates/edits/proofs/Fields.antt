@@ -13,7 +13,7 @@ use Rattle.rules.specs.Values.{areZeros, zeros, shareOf}
 use Rattle.rules.specs.Records.{isType}
 use Rattle.rules.specs.Other.{is43, releaseDate, releaseDuration, is44, is45, is46, dateInForce, durationInForce}
 use Rattle.format.proofs.Tests.{both}
-use Rattle.fields.proofs.Laws.{spelled}
+use Rattle.values.proofs.Laws.{spelled}
 use Rattle.edits.proofs.Levels.{clash}
 use Rattle.edits.proofs.Types.{not-other, not-third}
 

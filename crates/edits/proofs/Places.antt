@@ -15,7 +15,7 @@ use Rattle.rules.specs.Records.{isType}
 use Rattle.rules.specs.Publisher.{publisherType, is35, typeInForce}
 use Rattle.rules.specs.Writer.{designation, is40, default40, designationInForce}
 use Rattle.format.proofs.Tests.{by-cases, both, same→eq}
-use Rattle.fields.proofs.Laws.{spelled}
+use Rattle.values.proofs.Laws.{spelled}
 use Rattle.edits.specs.Places.{placeFrom, placeOf}
 use Rattle.edits.proofs.Levels.{clash}
 

@@ -7,7 +7,7 @@ ghost use Rattle.format.specs.Bytes.{Bytes};
 ghost use Rattle.rules.specs.Tables.{Tables};
 ghost use Rattle.rules.specs.Header.{isSerious, is16, is17, is18, is19, is20, is21, is22, is23};
 ghost use Rattle.rules.specs.Findings.{setOf, worst};
-ghost use Rattle.lookup.specs.Index.{Indexed};
+ghost use Rattle.tables.specs.Index.{Indexed};
 ghost use Rattle.edits.specs.Kinds.{Header};
 ghost use Rattle.edits.specs.Judged.{Judged};
 use super::Found;
@@ -30,7 +30,7 @@ fn found17(record: &[u8], languages: &[u8], slots: &[u16]) -> bool
     if text::blank(code) {
         return false;
     }
-    !lookup::has(languages, slots, code)
+    !tables::has(languages, slots, code)
 }
 
 // Work number blank.
@@ -47,7 +47,7 @@ fn found19(record: &[u8]) -> bool
     ensures { λ r. ⌜ r ≡ is19 (now («record» .entry)) ⌝ }
 {
     let code = text::field(record, 96, 11);
-    !text::blank(code) & !fields::iswc(code)
+    !text::blank(code) & !values::iswc(code)
 }
 
 // Copyright date not zeros and invalid.
@@ -56,7 +56,7 @@ fn found20(record: &[u8]) -> bool
     ensures { λ r. ⌜ r ≡ is20 (now («record» .entry)) ⌝ }
 {
     let date = text::field(record, 107, 8);
-    !fields::zeros(date) & !fields::date(date)
+    !values::zeros(date) & !values::date(date)
 }
 
 // Category not in the table; a blank one never is.
@@ -66,7 +66,7 @@ fn found21(record: &[u8], categories: &[u8], slots: &[u16]) -> bool
     ensures { λ r. ⌜ ((tables : Tables) → tables .categories ≡ now (categories .entry) → r ≡ is21 tables (now («record» .entry))) ⌝ }
 {
     let code = text::field(record, 127, 3);
-    text::blank(code) | !lookup::has(categories, slots, code)
+    text::blank(code) | !tables::has(categories, slots, code)
 }
 
 // Whether the category is SER.
@@ -84,7 +84,7 @@ fn found22(record: &[u8]) -> bool
     ensures { λ r. ⌜ r ≡ is22 (now («record» .entry)) ⌝ }
 {
     let duration = text::field(record, 130, 6);
-    serious(record) & (fields::zeros(duration) | !fields::duration(duration))
+    serious(record) & (values::zeros(duration) | !values::duration(duration))
 }
 
 // Another category, and duration invalid.
@@ -92,7 +92,7 @@ fn found23(record: &[u8]) -> bool
     requires { ⌜ Header (now «record») ⌝ }
     ensures { λ r. ⌜ r ≡ is23 (now («record» .entry)) ⌝ }
 {
-    !serious(record) & !fields::duration(text::field(record, 130, 6))
+    !serious(record) & !values::duration(text::field(record, 130, 6))
 }
 
 fn gather(
@@ -108,14 +108,14 @@ fn gather(
     ensures { λ r. ⌜ r .set ≡ setOf (replicate 16 false ++ b16 ∷ b17 ∷ b18 ∷ b19 ∷ b20 ∷ b21 ∷ b22 ∷ b23 ∷ replicate 23 false) ⌝ }
     ensures { λ r. ⌜ r .level ≡ worst (replicate 16 false ++ b16 ∷ b17 ∷ b18 ∷ b19 ∷ b20 ∷ b21 ∷ b22 ∷ b23 ∷ replicate 23 false) ⌝ }
 {
-    let set = sets::weigh(b16, 0x10000)
-        + sets::weigh(b17, 0x20000)
-        + sets::weigh(b18, 0x40000)
-        + sets::weigh(b19, 0x80000)
-        + sets::weigh(b20, 0x100000)
-        + sets::weigh(b21, 0x200000)
-        + sets::weigh(b22, 0x400000)
-        + sets::weigh(b23, 0x800000);
+    let set = findings::weigh(b16, 0x10000)
+        + findings::weigh(b17, 0x20000)
+        + findings::weigh(b18, 0x40000)
+        + findings::weigh(b19, 0x80000)
+        + findings::weigh(b20, 0x100000)
+        + findings::weigh(b21, 0x200000)
+        + findings::weigh(b22, 0x400000)
+        + findings::weigh(b23, 0x800000);
     let level = super::worst(b16 | (b17 | (b18 | (b21 | b22))), false, b19 | (b20 | b23));
     Found { set, level }
 }

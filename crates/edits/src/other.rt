@@ -29,7 +29,7 @@ fn nameless(b43: bool) -> Found
     ensures { λ r. ⌜ r .level ≡ worst (replicate 43 false ++ b43 ∷ replicate 3 false) ⌝ }
 {
     Found {
-        set: sets::weigh(b43, 0x80000000000),
+        set: findings::weigh(b43, 0x80000000000),
         level: super::worst(false, b43, false),
     }
 }
@@ -58,7 +58,7 @@ fn found45(record: &[u8]) -> bool
     ensures { λ r. ⌜ r ≡ is45 (now («record» .entry)) ⌝ }
 {
     let date = text::field(record, 20, 8);
-    !fields::zeros(date) & !fields::date(date)
+    !values::zeros(date) & !values::date(date)
 }
 
 // Duration invalid.
@@ -66,7 +66,7 @@ fn found46(record: &[u8]) -> bool
     requires { ⌜ Recording (now «record») ⌝ }
     ensures { λ r. ⌜ r ≡ is46 (now («record» .entry)) ⌝ }
 {
-    !fields::duration(text::field(record, 88, 6))
+    !values::duration(text::field(record, 88, 6))
 }
 
 // With these defaults in force date and duration are zeros, and 99 to 540 is blank.
@@ -75,8 +75,8 @@ fn found44(record: &[u8], b45: bool, b46: bool) -> bool
     requires { ⌜ (b45 ≡ is45 (now «record»)) × (b46 ≡ is46 (now «record»)) ⌝ }
     ensures { λ r. ⌜ r ≡ is44 (now («record» .entry)) ⌝ }
 {
-    let date = b45 | fields::zeros(text::field(record, 20, 8));
-    let duration = b46 | fields::zeros(text::field(record, 88, 6));
+    let date = b45 | values::zeros(text::field(record, 20, 8));
+    let duration = b46 | values::zeros(text::field(record, 88, 6));
     if !(date & duration) {
         return false;
     }
@@ -87,9 +87,9 @@ fn gather(b44: bool, b45: bool, b46: bool) -> Found
     ensures { λ r. ⌜ r .set ≡ setOf (replicate 44 false ++ b44 ∷ b45 ∷ b46 ∷ []) ⌝ }
     ensures { λ r. ⌜ r .level ≡ worst (replicate 44 false ++ b44 ∷ b45 ∷ b46 ∷ []) ⌝ }
 {
-    let set = sets::weigh(b44, 0x100000000000)
-        + sets::weigh(b45, 0x200000000000)
-        + sets::weigh(b46, 0x400000000000);
+    let set = findings::weigh(b44, 0x100000000000)
+        + findings::weigh(b45, 0x200000000000)
+        + findings::weigh(b46, 0x400000000000);
     let level = super::worst(false, b44, b45 | b46);
     Found { set, level }
 }

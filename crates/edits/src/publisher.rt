@@ -9,15 +9,15 @@ ghost use Rattle.rules.specs.Tables.{Tables, publisherTypes};
 ghost use Rattle.rules.specs.Records.{isType};
 ghost use Rattle.rules.specs.Publisher.{publisherType, typeInForce, hasShare, strange, earlierE, is25, is26, is27, is28, is29, is30, is31, is32, is33, is34, is35, is36, is37};
 ghost use Rattle.rules.specs.Findings.{setOf, worst};
-ghost use Rattle.lookup.specs.Index.{Indexed};
+ghost use Rattle.tables.specs.Index.{Indexed};
 ghost use Rattle.edits.specs.Kinds.{Publisher};
 ghost use Rattle.edits.specs.Places.{placeOf};
 ghost use Rattle.edits.specs.Before.{sequenceOf, lastSequence};
 ghost use Rattle.edits.specs.Judged.{Judged};
 use super::Found;
 use super::pick;
-use fields::Share;
-use fields::ShareField;
+use values::Share;
+use values::ShareField;
 
 // Whether it is an SPU; else it is an OPU.
 pub fn is_spu(record: &[u8]) -> bool
@@ -37,8 +37,8 @@ pub fn sequence(record: &[u8]) -> u64
     ensures { λ r. ⌜ r ≤ 100 ⌝ }
 {
     let number = text::field(record, 20, 2);
-    if fields::are_digits(number[0], number[1]) {
-        fields::number(number[0], number[1])
+    if values::are_digits(number[0], number[1]) {
+        values::number(number[0], number[1])
     } else {
         100
     }
@@ -218,7 +218,7 @@ fn unknown(code: &[u8], societies: &[u8], slots: &[u16]) -> bool
     if text::blank(code) {
         return false;
     }
-    !lookup::has(societies, slots, code)
+    !tables::has(societies, slots, code)
 }
 
 fn found36(record: &[u8], societies: &[u8], slots: &[u16]) -> bool
@@ -260,19 +260,19 @@ fn gather(
     ensures { λ r. ⌜ r .set ≡ setOf (replicate 25 false ++ b25 ∷ b26 ∷ b27 ∷ b28 ∷ b29 ∷ b30 ∷ b31 ∷ b32 ∷ b33 ∷ b34 ∷ b35 ∷ b36 ∷ b37 ∷ replicate 9 false) ⌝ }
     ensures { λ r. ⌜ r .level ≡ worst (replicate 25 false ++ b25 ∷ b26 ∷ b27 ∷ b28 ∷ b29 ∷ b30 ∷ b31 ∷ b32 ∷ b33 ∷ b34 ∷ b35 ∷ b36 ∷ b37 ∷ replicate 9 false) ⌝ }
 {
-    let set = sets::weigh(b25, 0x2000000)
-        + sets::weigh(b26, 0x4000000)
-        + sets::weigh(b27, 0x8000000)
-        + sets::weigh(b28, 0x10000000)
-        + sets::weigh(b29, 0x20000000)
-        + sets::weigh(b30, 0x40000000)
-        + sets::weigh(b31, 0x80000000)
-        + sets::weigh(b32, 0x100000000)
-        + sets::weigh(b33, 0x200000000)
-        + sets::weigh(b34, 0x400000000)
-        + sets::weigh(b35, 0x800000000)
-        + sets::weigh(b36, 0x1000000000)
-        + sets::weigh(b37, 0x2000000000);
+    let set = findings::weigh(b25, 0x2000000)
+        + findings::weigh(b26, 0x4000000)
+        + findings::weigh(b27, 0x8000000)
+        + findings::weigh(b28, 0x10000000)
+        + findings::weigh(b29, 0x20000000)
+        + findings::weigh(b30, 0x40000000)
+        + findings::weigh(b31, 0x80000000)
+        + findings::weigh(b32, 0x100000000)
+        + findings::weigh(b33, 0x200000000)
+        + findings::weigh(b34, 0x400000000)
+        + findings::weigh(b35, 0x800000000)
+        + findings::weigh(b36, 0x1000000000)
+        + findings::weigh(b37, 0x2000000000);
     let tr = b25 | (b26 | (b27 | (b28 | (b29 | (b30 | (b31 | b32))))));
     let fr = b33 | (b34 | (b35 | (b36 | b37)));
     let level = super::worst(tr, false, fr);

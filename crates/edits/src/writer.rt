@@ -13,7 +13,7 @@ ghost use Rattle.edits.specs.Places.{placeOf};
 ghost use Rattle.edits.specs.Judged.{Judged};
 use super::Found;
 use super::pick;
-use fields::Share;
+use values::Share;
 
 // Whether it is an SWR; else it is an OWR.
 fn is_swr(record: &[u8]) -> bool
@@ -93,11 +93,11 @@ fn gather(b38: bool, b39: bool, b40: bool, b41: bool, b42: bool) -> Found
     ensures { λ r. ⌜ r .set ≡ setOf (replicate 38 false ++ b38 ∷ b39 ∷ b40 ∷ b41 ∷ b42 ∷ replicate 4 false) ⌝ }
     ensures { λ r. ⌜ r .level ≡ worst (replicate 38 false ++ b38 ∷ b39 ∷ b40 ∷ b41 ∷ b42 ∷ replicate 4 false) ⌝ }
 {
-    let set = sets::weigh(b38, 0x4000000000)
-        + sets::weigh(b39, 0x8000000000)
-        + sets::weigh(b40, 0x10000000000)
-        + sets::weigh(b41, 0x20000000000)
-        + sets::weigh(b42, 0x40000000000);
+    let set = findings::weigh(b38, 0x4000000000)
+        + findings::weigh(b39, 0x8000000000)
+        + findings::weigh(b40, 0x10000000000)
+        + findings::weigh(b41, 0x20000000000)
+        + findings::weigh(b42, 0x40000000000);
     let level = super::worst(b38 | (b39 | (b41 | b42)), false, b40);
     Found { set, level }
 }

@@ -20,8 +20,8 @@ use Rattle.rules.specs.Outcome.{content}
 use Rattle.structure.specs.Cursor.{Here}
 use Rattle.buffers.specs.Written.{Written}
 use Rattle.buffers.proofs.Entries.{then}
-use Rattle.works.proofs.Laws.{some-record}
-use Rattle.works.specs.Walk.{restAt, tailOf, Room}
+use Rattle.transactions.proofs.Laws.{some-record}
+use Rattle.transactions.specs.Walk.{restAt, tailOf, Room}
 use Rattle.files.specs.Levels.{Judged}
 use Rattle.files.proofs.Controls.{header, next, follows}
 use Rattle.files.proofs.Levels.{room-left}

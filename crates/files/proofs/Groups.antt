@@ -26,8 +26,8 @@ use Rattle.structure.proofs.Cursor.{three-left}
 use Rattle.buffers.specs.Written.{Written}
 use Rattle.buffers.proofs.Entries.{kept-v, kept-f, then}
 use Rattle.buffers.proofs.Raised.{raised-over}
-use Rattle.works.proofs.Laws.{some-record}
-use Rattle.works.specs.Walk.{restAt, tailOf, Room}
+use Rattle.transactions.proofs.Laws.{some-record}
+use Rattle.transactions.specs.Walk.{restAt, tailOf, Room}
 use Rattle.files.specs.declared.Next.{Next}
 use Rattle.files.specs.Levels.{transactionsOf, groupOf, afterGroup, isStrayAmong, Judged}
 use Rattle.files.proofs.Controls.{opening, closing, trailer, ends, lent, next, letter, follows, trl-after, as-closed, last-record}

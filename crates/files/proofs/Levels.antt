@@ -15,7 +15,7 @@ use Rattle.structure.specs.Cursor.{Here}
 use Rattle.buffers.specs.Written.{Written}
 use Rattle.buffers.proofs.Splice.{splice-nil}
 use Rattle.buffers.proofs.Entries.{kept-v, kept-f, then}
-use Rattle.works.specs.Walk.{restAt, Room}
+use Rattle.transactions.specs.Walk.{restAt, Room}
 use Rattle.files.specs.Levels.{Judged}
 
 -- nothing is written

@@ -21,10 +21,10 @@ use Rattle.rules.specs.Works.{is0, transactionFindings}
 use Rattle.rules.specs.Verdicts.{joined, transactionVerdicts}
 use Rattle.structure.specs.Cursor.{Here}
 use Rattle.buffers.proofs.Entries.{kept-v, kept-f}
-use Rattle.works.specs.declared.Passed.{Passed}
-use Rattle.works.specs.Walk.{restAt, tailOf, frontOf, Room, Transacted}
+use Rattle.transactions.specs.declared.Passed.{Passed}
+use Rattle.transactions.specs.Walk.{restAt, tailOf, frontOf, Room, Transacted}
 use Rattle.rules.proofs.Verdicts.{any-after}
-use Rattle.works.proofs.Laws.{length-details, some-record}
+use Rattle.transactions.proofs.Laws.{length-details, some-record}
 use Rattle.files.specs.Levels.{transactionsOf, isStrayAmong, Judged}
 use Rattle.files.proofs.Controls.{follows, head-after, grt-after, as-head}
 use Rattle.files.proofs.Levels.{Going, going-none, going-room, going-on, going-end}

@@ -14,7 +14,7 @@ use Rattle.rules.specs.Works.{is0}
 use Rattle.rules.specs.Verdicts.{anyOf}
 use Rattle.structure.specs.Cursor.{Here}
 use Rattle.buffers.specs.Written.{Written}
-use Rattle.works.specs.Walk.{tailOf}
+use Rattle.transactions.specs.Walk.{tailOf}
 
 -- the transactions at the front of the records
 abbrev pub transactionsOf : List Bytes → List Transaction

@@ -3,7 +3,7 @@
 use buffers::raise;
 use buffers::settle;
 use kinds::HEAD;
-use works::Passed;
+use transactions::Passed;
 ghost use mathlib.Core.Path.{_≡_};
 ghost use mathlib.Core.Bool.{cond};
 ghost use mathlib.Core.List.{_∷_};
@@ -19,10 +19,10 @@ ghost use Rattle.rules.specs.Values.{largestTolerance};
 ghost use Rattle.rules.specs.Works.{transactionFindings};
 ghost use Rattle.rules.specs.Verdicts.{joined, groupFindings, fileFindings, transactionVerdicts, groupVerdicts, fileVerdicts};
 ghost use Rattle.rules.specs.Outcome.{content};
-ghost use Rattle.lookup.specs.Index.{Indexed};
+ghost use Rattle.tables.specs.Index.{Indexed};
 ghost use Rattle.structure.specs.Cursor.{Here};
 ghost use Rattle.buffers.specs.Written.{Written};
-ghost use Rattle.works.specs.Walk.{restAt, Room};
+ghost use Rattle.transactions.specs.Walk.{restAt, Room};
 ghost use Rattle.rules.specs.Tables.{tablesOf};
 ghost use Rattle.files.specs.Levels.{transactionsOf, groupOf, afterGroup, isStrayAmong, Judged};
 
@@ -76,7 +76,7 @@ fn judge_transactions(
         stray: false,
     };
     while p.place == HEAD {
-        let q = works::judge_transaction(
+        let q = transactions::judge_transaction(
             file,
             p.at,
             p.index,

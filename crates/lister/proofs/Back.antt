@@ -15,7 +15,7 @@ use Rattle.rules.specs.Findings.{setOf, places, bytesOf, countOf}
 use Rattle.rules.specs.Verdicts.{findingBytes}
 use Rattle.rules.specs.Listing.{lowestWord, recordLine, recordLines}
 use Rattle.rules.proofs.Joined.{length-bytes}
-use Rattle.sets.proofs.Laws.{count-of-set, lowest-of-set}
+use Rattle.findings.proofs.Laws.{count-of-set, lowest-of-set}
 use Rattle.text.specs.Words.{wordOf}
 use Rattle.lister.proofs.Small.{Small}
 use Rattle.lister.specs.Read.{firstSet, setsIn, linesFrom}

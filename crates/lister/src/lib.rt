@@ -80,8 +80,8 @@ fn put_lowest(set: u64, out: &mut [u8], at: usize) -> usize
     ensures { λ r. ⌜ Put at (lowestWord (places 64 set) ++ 10 ∷ []) (now (out .entry)) (now (out .exit)) r ⌝ }
     ensures { λ r. ⌜ r ≤ at + 11 ⌝ }
 {
-    let count = sets::count(set);
-    let lowest = sets::lowest(set);
+    let count = findings::count(set);
+    let lowest = findings::lowest(set);
     if count == 0 {
         return put_word(b"-", LF, out, at);
     }
@@ -97,7 +97,7 @@ fn put_record(number: u64, kind: &[u8], verdict: u64, set: u64, out: &mut [u8], 
     let a = put_figure(number, SPACE, out, at);
     let b = put_word(kind, SPACE, out, a);
     let c = put_figure(verdict, SPACE, out, b);
-    let d = put_figure(sets::count(set) as u64, SPACE, out, c);
+    let d = put_figure(findings::count(set) as u64, SPACE, out, c);
     put_lowest(set, out, d)
 }
 

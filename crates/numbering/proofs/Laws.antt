@@ -18,8 +18,8 @@ use Rattle.kinds.specs.Rows.{rowFor, shapeOf}
 use Rattle.kinds.specs.declared.Row.{Row}
 use Rattle.kinds.specs.declared.Shape.{Shape}
 use Rattle.lines.specs.Scan.{textLength}
-use Rattle.numbers.specs.Tally.{tally, Kept}
-use Rattle.numbers.specs.declared.Counts.{Counts as CodeCounts}
+use Rattle.counts.specs.Tally.{tally, Kept}
+use Rattle.counts.specs.declared.Counts.{Counts as CodeCounts}
 use Rattle.structure.specs.Rest.{isGood}
 use Rattle.structure.specs.Walk.{Bounded, Next}
 use Rattle.structure.specs.declared.Stand.{Stand}

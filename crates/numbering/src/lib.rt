@@ -1,8 +1,8 @@
 // Numbering: a file's numbers written afresh into a lent buffer. All refusals come first, so that a refused call writes nothing; then
 // one walk copies each line and writes its numbers over what stood there.
 use answers::Answer;
+use counts::Counts;
 use kinds::UNKNOWN;
-use numbers::Counts;
 use structure::Stand;
 ghost use mathlib.Core.Path.{_≡_};
 ghost use mathlib.Core.List.{_++_};
@@ -13,7 +13,7 @@ ghost use Rattle.format.specs.Cwr22.{cwr22};
 ghost use Rattle.format.specs.Checks.{classAt, expected};
 ghost use Rattle.format.specs.Numbering.{numberedFile};
 ghost use Rattle.answers.specs.Numbers.{answerOf};
-ghost use Rattle.numbers.specs.Tally.{tally, CanGrow};
+ghost use Rattle.counts.specs.Tally.{tally, CanGrow};
 ghost use Rattle.numbering.specs.Outcome.{numberAnswer, numberBuffer};
 ghost use Rattle.numbering.specs.Fill.{Sized};
 

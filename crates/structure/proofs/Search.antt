@@ -16,7 +16,7 @@ use Rattle.format.specs.Numbering.{recordsIn}
 use Rattle.kinds.specs.Rows.{rowFor}
 use Rattle.kinds.specs.declared.Row.{Row}
 use Rattle.lines.specs.Scan.{textLength}
-use Rattle.numbers.specs.Tally.{tally}
+use Rattle.counts.specs.Tally.{tally}
 use Rattle.structure.specs.Rest.{judgedFrom, moreFaults, atEnd, isGood}
 use Rattle.structure.specs.Walk.{Bounded, Next, faultsOf}
 use Rattle.structure.specs.declared.Stand.{Stand}

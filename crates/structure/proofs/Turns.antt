@@ -20,8 +20,8 @@ use Rattle.kinds.specs.declared.Row.{Row}
 use Rattle.format.proofs.Tests.{both}
 use Rattle.kinds.proofs.Laws.{first-three, hinted}
 use Rattle.lines.proofs.Laws.{every-text, pair-after}
-use Rattle.numbers.specs.Tally.{tally, Kept}
-use Rattle.numbers.specs.declared.Counts.{Counts as CodeCounts}
+use Rattle.counts.specs.Tally.{tally, Kept}
+use Rattle.counts.specs.declared.Counts.{Counts as CodeCounts}
 use Rattle.structure.specs.Rest.{orElse, Faults, restFrom, moreFaults}
 use Rattle.structure.specs.Walk.{Roomy, Bounded, Stood, RightAt, Next}
 use Rattle.structure.specs.declared.Stand.{Stand}

@@ -10,7 +10,7 @@ use Rattle.format.specs.Cwr22.{cwr22}
 use Rattle.format.specs.Checks.{classAt, noneCounted, count, mayFollow, slot, expected}
 use Rattle.kinds.specs.Rows.{typeOf}
 use Rattle.kinds.specs.declared.Row.{Row}
-use Rattle.numbers.specs.Tally.{tally, Kept}
+use Rattle.counts.specs.Tally.{tally, Kept}
 use Rattle.structure.specs.declared.Stand.{Stand}
 use Rattle.structure.specs.declared.Met.{Met}
 use Rattle.structure.specs.Rest.{Faults, restFrom}

@@ -2,6 +2,7 @@
 // stops at the first doubt, and only then plain scans look for the refusal and its place, from there on.
 use answers::Answer;
 use answers::MOST_RECORDS;
+use counts::Counts;
 use kinds::DETAIL;
 use kinds::GRH;
 use kinds::GRT;
@@ -11,7 +12,6 @@ use kinds::Row;
 use kinds::TRL;
 use kinds::UNKNOWN;
 use lines::Scan;
-use numbers::Counts;
 ghost use mathlib.Core.Path.{_≡_};
 ghost use mathlib.Core.Bool.{Bool, true, cond, not, _&&_, _||_};
 ghost use Prim.Native.Nat.{_+_, _≤_};
@@ -26,7 +26,7 @@ ghost use Rattle.format.specs.Structure.{unless, mostBytes, structure};
 ghost use Rattle.format.specs.Numbering.{numbering, recordsIn};
 ghost use Rattle.answers.specs.Numbers.{answerOf};
 ghost use Rattle.kinds.specs.Rows.{rowFor};
-ghost use Rattle.numbers.specs.Tally.{tally, Kept, CanGrow};
+ghost use Rattle.counts.specs.Tally.{tally, Kept, CanGrow};
 ghost use Rattle.structure.specs.Rest.{orElse, faultless, judgedFrom, restFrom, moreFaults, atEnd, isGood};
 ghost use Rattle.structure.specs.Walk.{Roomy, Bounded, Stood, RightAt, Next, met, faultsOf};
 

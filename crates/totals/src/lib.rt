@@ -1,6 +1,6 @@
 // The totals of a transaction's shares, and findings 1 to 3 on them. Nothing wraps: a transaction may hold 92,000 share records at 99999,
 // whose total is past 32 bits.
-use fields::Share;
+use values::Share;
 ghost use mathlib.Core.Path.{_≡_};
 ghost use mathlib.Core.Bool.{true};
 ghost use mathlib.Core.List.{List, [], _∷_, _++_};

@@ -2,7 +2,7 @@
 use native.Mathlib.Omega.{arith}
 use mathlib.Core.Path.{_∙_}
 use borrow.Author.Needs.{needs}
-use Rattle.lookup.proofs.Laws.{indexed-length}
+use Rattle.tables.proofs.Laws.{indexed-length}
 use Rattle.cwr.proofs.Slots.{first-part, second-part, third-part}
 use Rattle.cwr.proofs.index_all.Statement.{statement}
 use Rattle.cwr.proofs.index_all.Tie as tie

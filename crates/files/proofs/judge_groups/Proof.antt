@@ -1,7 +1,7 @@
 -- `files::judge_groups` meets its contract. Assumes nothing.
 use lib.ListN.{length}
 use mathlib.Core.Path.{sym, _∙_}
-use Rattle.works.specs.Walk.{restAt}
+use Rattle.transactions.specs.Walk.{restAt}
 use Rattle.rules.specs.Tables.{tablesOf}
 use Rattle.files.proofs.Groups.{Inv, over-none, over-here, in-file, over-room, same-v, same-g, group-here, over-on, fewer, over-end, one-left}
 use Rattle.files.proofs.judge_groups.Statement.{statement}

@@ -1,7 +1,7 @@
 -- `files::judge_transactions` meets its contract. Assumes nothing.
 use lib.ListN.{length}
 use Rattle.format.specs.Table.{head}
-use Rattle.works.specs.Walk.{restAt}
+use Rattle.transactions.specs.Walk.{restAt}
 use Rattle.rules.specs.Tables.{tablesOf}
 use Rattle.files.proofs.Transactions.{Inv, among-none, here, room, same-v, same-g, header-here, fewer, among-on, among-end, among-stray, closed}
 use Rattle.files.proofs.judge_transactions.Statement.{statement}

@@ -1,7 +1,7 @@
 -- `numbering::number_line` meets its contract: the line is copied whole, and the numbers stand over it.
 use borrow.Author.Needs.{needs}
 use Rattle.format.specs.Checks.{classAt, expected}
-use Rattle.numbers.specs.Tally.{tally}
+use Rattle.counts.specs.Tally.{tally}
 use Rattle.numbering.proofs.Laws.{line-over}
 use Rattle.numbering.proofs.number_line.Statement.{statement}
 use Rattle.numbering.proofs.number_line.Tie as tie

@@ -1,6 +1,6 @@
 -- `structure::ended` meets its contract: one law for each ground.
 use borrow.Author.Needs.{needs}
-use Rattle.numbers.specs.Tally.{tally}
+use Rattle.counts.specs.Tally.{tally}
 use Rattle.structure.proofs.Faults.{end-met, end-place, end-number, end-total, end-version, end-passed}
 use Rattle.structure.proofs.ended.Statement.{statement}
 use Rattle.structure.proofs.ended.Tie as tie

@@ -9,7 +9,7 @@ use Rattle.format.specs.Lines.{lines}
 use Rattle.format.specs.Checks.{classAt}
 use Rattle.format.specs.Structure.{refused}
 use Rattle.format.specs.Numbering.{recordsIn}
-use Rattle.numbers.specs.Tally.{tally}
+use Rattle.counts.specs.Tally.{tally}
 use Rattle.structure.specs.Rest.{faultless, judgedFrom}
 use Rattle.structure.proofs.Search.{Judging, judging-end, judging-type, judging-on, is-typed}
 use borrow.Author.Needs.{needs}

@@ -2,7 +2,7 @@
 use borrow.Author.Needs.{needs}
 use native.Mathlib.Omega.{arith}
 use Rattle.format.specs.Checks.{classAt}
-use Rattle.numbers.specs.Tally.{tally}
+use Rattle.counts.specs.Tally.{tally}
 use Rattle.structure.specs.Walk.{faultsOf}
 use Rattle.structure.proofs.Rows.{row-six, row-room}
 use Rattle.structure.proofs.Turns.{faults-more}

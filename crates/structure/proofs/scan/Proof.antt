@@ -4,7 +4,7 @@ use mathlib.Core.Path.{sym, _∙_}
 use lib.ListN.{drop}
 use Rattle.format.specs.Lines.{lines}
 use Rattle.format.specs.Checks.{classAt}
-use Rattle.numbers.specs.Tally.{tally}
+use Rattle.counts.specs.Tally.{tally}
 use Rattle.structure.proofs.Whole.{lines-fault, lines-good, lines-many, lines-few}
 use borrow.Author.Needs.{needs}
 use Rattle.structure.proofs.scan.Statement.{statement}

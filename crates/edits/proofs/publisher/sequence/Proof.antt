@@ -3,7 +3,7 @@
 use native.Mathlib.Omega.{arith}
 use mathlib.Core.Path.{sym, ap, _∙_}
 use Rattle.format.specs.Fields.{areDigits, numberOf}
-use Rattle.fields.proofs.Laws.{spelled}
+use Rattle.values.proofs.Laws.{spelled}
 use Rattle.edits.specs.Before.{sequenceOf}
 use borrow.Author.Needs.{needs}
 use Rattle.edits.proofs.publisher.sequence.Statement.{statement}

@@ -1,0 +1,45 @@
+-- `findings::put` meets its contract: eight stores in a row.
+-- Assumes nothing.
+use native.Mathlib.Omega.{arith}
+use lib.ListN.{length-set}
+use Rattle.rules.specs.Findings.{bytesOf}
+use Rattle.findings.proofs.Laws.{stores}
+use borrow.Author.Needs.{needs}
+use Rattle.findings.proofs.put.Statement.{statement}
+use Rattle.findings.proofs.put.Tie as tie
+
+slice-write-out : tie.Need-slice-write-out
+slice-write-out c = omega arith
+
+slice-write-out-2 : tie.Need-slice-write-out-2
+slice-write-out-2 c = simp length-set (omega arith)
+
+slice-write-out-3 : tie.Need-slice-write-out-3
+slice-write-out-3 c = simp length-set (omega arith)
+
+slice-write-out-4 : tie.Need-slice-write-out-4
+slice-write-out-4 c = simp length-set (omega arith)
+
+slice-write-out-5 : tie.Need-slice-write-out-5
+slice-write-out-5 c = simp length-set (omega arith)
+
+slice-write-out-6 : tie.Need-slice-write-out-6
+slice-write-out-6 c = simp length-set (omega arith)
+
+slice-write-out-7 : tie.Need-slice-write-out-7
+slice-write-out-7 c = simp length-set (omega arith)
+
+slice-write-out-8 : tie.Need-slice-write-out-8
+slice-write-out-8 c = simp length-set (omega arith)
+
+returns : tie.Need-returns
+unfolding bytesOf
+returns c = stores (c .args .out .now) (c .args .set) (c .pre)
+
+pub put-spec : {M : Type 1} → statement M
+put-spec =
+    tie.close
+    (tie.spec
+    (λ c. search needs) slice-write-out (λ c. search needs) slice-write-out-2 (λ c. search needs) slice-write-out-3
+    (λ c. search needs) slice-write-out-4 (λ c. search needs) slice-write-out-5 (λ c. search needs) slice-write-out-6
+    (λ c. search needs) slice-write-out-7 (λ c. search needs) slice-write-out-8 (λ c. search needs) returns)

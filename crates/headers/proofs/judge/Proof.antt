@@ -1,0 +1,54 @@
+-- `headers::judge` meets its contract: each finding by its function. Assumes nothing.
+use mathlib.Core.Path.{ap, _∙_}
+use mathlib.Core.List.{[]}
+use Rattle.rules.specs.Findings.{fieldFindings, setOf, worst}
+use Rattle.rules.specs.Works.{headerFindings}
+use Rattle.headers.proofs.Laws.{own-late}
+use borrow.Author.Needs.{needs}
+use Rattle.headers.proofs.judge.Statement.{statement}
+use Rattle.headers.proofs.judge.Tie as tie
+
+returns : tie.Need-returns
+unfolding headerFindings
+returns c tables ds k l j =
+    let at15 = c .before in
+    let at10 = at15 .before in
+    let at9 = at10 .before in
+    let at8 = at9 .before in
+    let at7 = at8 .before in
+    let at6 = at7 .before in
+    let at5 = at6 .before in
+    let at4 = at5 .before in
+    let at3 = at4 .before in
+    let at2 = at3 .before in
+    let at1 = at2 .before in
+    let at0 = at1 .before in
+    let h = at0 .before .before .before .before .before .before .args .header .now in
+    let own = own-late tables [] h in
+    rw (
+      ← at0 .found0 .ensures,
+      ← at1 .publishers-exceed .ensures ds (k .totals),
+      ← at2 .writers-miss .ensures ds (k .totals),
+      ← at3 .incomplete .ensures ds (k .totals),
+      ← at4 .found4 .ensures ds (k .marks),
+      ← at5 .found5 .ensures ds (k .marks),
+      ← at6 .found6 .ensures ds (k .marks),
+      ← at7 .found7 .ensures ds (k .marks),
+      ← at8 .is-broken .ensures ds (k .order),
+      ← at9 .found9 .ensures ds (k .marks),
+      ← at10 .found10 .ensures ds (k .marks),
+      ← l .many,
+      ← l .shareless,
+      ← l .joined,
+      ← l .kept,
+      ← at15 .found15 .ensures ds (k .marks),
+    )
+    (c .gather .ensures (fieldFindings tables [] h) (j .set ∙ ap setOf own) (j .level ∙ ap worst own))
+
+pub judge-spec : {M : Type 1} → statement M
+judge-spec =
+    tie.close
+    (tie.spec
+    (λ c κs. search needs) (λ c κs. search needs) (λ c κs. search needs) (λ c κs. search needs) (λ c κs. search needs)
+    (λ c κs. search needs) (λ c κs. search needs) (λ c κs. search needs) (λ c κs. search needs) (λ c κs. search needs)
+    (λ c κs. search needs) (λ c κs. search needs) (λ c κs. search needs) returns)

@@ -1,0 +1,191 @@
+// The findings on a transaction's header: 0 to 15, which hang on the whole transaction, joined with those on the header's own fields.
+use edits::Found;
+use marks::Marks;
+use tally::Tally;
+ghost use mathlib.Core.Path.{_≡_};
+ghost use mathlib.Core.Bool.{Bool, false};
+ghost use mathlib.Core.List.{List, [], _∷_, _++_};
+ghost use Prim.Native.Nat.{_^_, _<_, _≤_};
+ghost use lib.ListN.{replicate};
+ghost use Rattle.format.specs.Bytes.{Bytes};
+ghost use Rattle.rules.specs.Tables.{Tables};
+ghost use Rattle.rules.specs.Values.{largestTolerance};
+ghost use Rattle.rules.specs.Writers.{versionType, is4, is5, is6, is7, is10};
+ghost use Rattle.rules.specs.Works.{is0, is9, is15};
+ghost use Rattle.rules.specs.Findings.{setOf, worst};
+ghost use Rattle.totals.specs.Sums.{Below};
+ghost use Rattle.marks.specs.Marked.{Marked};
+ghost use Rattle.edits.specs.Kinds.{Header};
+ghost use Rattle.edits.specs.Judged.{Judged};
+ghost use Rattle.tally.specs.Known.{Known};
+ghost use Rattle.headers.specs.Headed.{Linked, Gathered, Headed};
+
+// Findings 11 to 14, as the chains have them.
+pub struct Links {
+    pub many: bool,
+    pub shareless: bool,
+    pub joined: bool,
+    pub kept: bool,
+}
+
+// The header's set of findings and its largest verdict; whether it has a finding that rejects the transaction; whether it has finding 0.
+pub struct Head {
+    pub set: u64,
+    pub level: u8,
+    pub rejects: bool,
+    pub stray: bool,
+}
+
+// The verdict that only finding 0 has.
+pub const GR: u8 = 4;
+
+// The header's type is not the one that GRH names.
+fn found0(header: &[u8], named: &[u8]) -> bool
+    requires { ⌜ Header (now header) ⌝ }
+    ensures { λ r. ⌜ r ≡ is0 (now (named .entry)) (now (header .entry)) ⌝ }
+{
+    !text::is_three(named, header[0], header[1], header[2])
+}
+
+// No writer.
+fn found4(marks: Marks) -> bool
+    ensures { λ r. ⌜ ((ds : List Bytes) → Marked marks ds → r ≡ is4 ds) ⌝ }
+{
+    !marks.writer
+}
+
+// No writer that makes a work.
+fn found5(marks: Marks) -> bool
+    ensures { λ r. ⌜ ((ds : List Bytes) → Marked marks ds → r ≡ is5 ds) ⌝ }
+{
+    !marks.creator
+}
+
+fn version_type(header: &[u8]) -> &[u8]
+    requires { ⌜ Header (now header) ⌝ }
+    ensures { λ r. ⌜ now r ≡ versionType (now (header .entry)) ⌝ }
+{
+    text::field(header, 143, 3)
+}
+
+// A modified version, and no writer that changes a work.
+fn found6(header: &[u8], marks: Marks) -> bool
+    requires { ⌜ Header (now header) ⌝ }
+    ensures { λ r. ⌜ ((ds : List Bytes) → Marked marks ds → r ≡ is6 (now (header .entry)) ds) ⌝ }
+{
+    text::is_three(version_type(header), b'M', b'O', b'D') & !marks.changer
+}
+
+// An original work, and such a writer.
+fn found7(header: &[u8], marks: Marks) -> bool
+    requires { ⌜ Header (now header) ⌝ }
+    ensures { λ r. ⌜ ((ds : List Bytes) → Marked marks ds → r ≡ is7 (now (header .entry)) ds) ⌝ }
+{
+    text::is_three(version_type(header), b'O', b'R', b'I') & marks.changer
+}
+
+// Category SER, and neither INS nor IND.
+fn found9(header: &[u8], marks: Marks) -> bool
+    requires { ⌜ Header (now header) ⌝ }
+    ensures { λ r. ⌜ ((ds : List Bytes) → Marked marks ds → r ≡ is9 (now (header .entry)) ds) ⌝ }
+{
+    text::is_three(text::field(header, 127, 3), b'S', b'E', b'R') & !marks.instrument
+}
+
+// Music alone by the relationship of text and music, and a writer of text.
+fn found10(header: &[u8], marks: Marks) -> bool
+    requires { ⌜ Header (now header) ⌝ }
+    ensures { λ r. ⌜ ((ds : List Bytes) → Marked marks ds → r ≡ is10 (now (header .entry)) ds) ⌝ }
+{
+    text::is_three(text::field(header, 137, 3), b'M', b'U', b'S') & marks.author
+}
+
+// More than one EWT, or more than one VER.
+fn found15(marks: Marks) -> bool
+    ensures { λ r. ⌜ ((ds : List Bytes) → Marked marks ds → r ≡ is15 ds) ⌝ }
+{
+    marks.ewts | marks.vers
+}
+
+// Eight findings in a row as a number.
+fn octet(b0: bool, b1: bool, b2: bool, b3: bool, b4: bool, b5: bool, b6: bool, b7: bool) -> u64
+    ensures { λ r. ⌜ r ≡ setOf (b0 ∷ b1 ∷ b2 ∷ b3 ∷ b4 ∷ b5 ∷ b6 ∷ b7 ∷ []) ⌝ }
+    ensures { λ r. ⌜ r < 256 ⌝ }
+{
+    findings::weigh(b0, 1)
+        + findings::weigh(b1, 2)
+        + findings::weigh(b2, 4)
+        + findings::weigh(b3, 8)
+        + findings::weigh(b4, 16)
+        + findings::weigh(b5, 32)
+        + findings::weigh(b6, 64)
+        + findings::weigh(b7, 128)
+}
+
+// Findings 0 to 15 before the header's own. Finding 0 alone rejects the group, the other fifteen the transaction. The header's own begin
+// at 16 and are taken from there on, so that no sum wraps whatever they are.
+fn gather(
+    b0: bool,
+    b1: bool,
+    b2: bool,
+    b3: bool,
+    b4: bool,
+    b5: bool,
+    b6: bool,
+    b7: bool,
+    b8: bool,
+    b9: bool,
+    b10: bool,
+    b11: bool,
+    b12: bool,
+    b13: bool,
+    b14: bool,
+    b15: bool,
+    own: Found,
+) -> Head
+    ensures { λ h. ⌜ ((rest : List Bool) → own .set ≡ setOf (replicate 16 false ++ rest) → own .level ≡ worst (replicate 16 false ++ rest) → Gathered (b0 ∷ b1 ∷ b2 ∷ b3 ∷ b4 ∷ b5 ∷ b6 ∷ b7 ∷ b8 ∷ b9 ∷ b10 ∷ b11 ∷ b12 ∷ b13 ∷ b14 ∷ b15 ∷ rest) b0 h) ⌝ }
+{
+    let low = octet(b0, b1, b2, b3, b4, b5, b6, b7);
+    let high = octet(b8, b9, b10, b11, b12, b13, b14, b15);
+    let set = low + 256 * high + 65536 * (own.set / 65536);
+    let tr = b1 | b2 | b3 | b4 | b5 | b6 | b7 | b8 | b9 | b10 | b11 | b12 | b13 | b14 | b15;
+    let level = edits::pick(b0, GR, edits::pick(tr, edits::TR, own.level));
+    Head {
+        set: set,
+        level: level,
+        rejects: tr | (own.level == edits::TR),
+        stray: b0,
+    }
+}
+
+// What a header has, where y knows the details and links their chains, and own is what the header's own fields have. named is the type that
+// GRH names, and t the tolerance.
+pub fn judge(header: &[u8], named: &[u8], own: Found, y: Tally, links: Links, t: u64) -> Head
+    requires { ⌜ Header (now header) ⌝ }
+    requires { ⌜ t ≤ largestTolerance ⌝ }
+    requires { ⌜ Below (2 ^ 60) (y .totals) ⌝ }
+    ensures { λ h. ⌜ ((tables : Tables) (ds : List Bytes) → Known y ds → Linked links ds → Judged tables [] (now (header .entry)) own → Headed tables t (now (named .entry)) (record { header = now (header .entry); details = ds }) h) ⌝ }
+{
+    let totals = y.totals;
+    let order = y.order;
+    let marks = y.marks;
+    gather(
+        found0(header, named),
+        totals.publishers_exceed(t),
+        totals.writers_miss(t),
+        totals.incomplete(t),
+        found4(marks),
+        found5(marks),
+        found6(header, marks),
+        found7(header, marks),
+        order.is_broken(),
+        found9(header, marks),
+        found10(header, marks),
+        links.many,
+        links.shareless,
+        links.joined,
+        links.kept,
+        found15(marks),
+        own,
+    )
+}
