@@ -6,7 +6,7 @@ use Rattle.format.specs.Bytes.{Bytes, sameBytes}
 
 abbrev pub placeFrom : ℕ → Bytes → List Bytes → ℕ
 placeFrom n code [] = n
-placeFrom n code (t ∷ ts) = cond (sameBytes t code) n (placeFrom (suc n) code ts)
+placeFrom n code (entry ∷ entries) = cond (sameBytes entry code) n (placeFrom (suc n) code entries)
 
 -- counted from 0; where it isn't there, how many entries there are
 unfoldable pub placeOf : Bytes → List Bytes → ℕ

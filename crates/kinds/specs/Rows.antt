@@ -17,7 +17,7 @@ use Rattle.kinds.specs.declared.Shape.{Shape}
 
 -- the type's spot of index i; stages are counted from 1, so that stage 0 says that there is none
 abbrev pub spotAt : ℕ → Bytes → Spot
-spotAt i t = getD (spots t) i (spot 0 0)
+spotAt i type = getD (spots type) i (spot 0 0)
 
 -- what is judged of a record of the type besides its order; each list holds the types of one sort, counted from 1
 abbrev pub sorts : List (List Bytes)
@@ -35,27 +35,27 @@ sorts =
 
 -- 0 where no list holds the type
 abbrev pub sortFrom : ℕ → Bytes → List (List Bytes) → ℕ
-sortFrom n t [] = 0
-sortFrom n t (ts ∷ rest) = cond (among t ts) n (sortFrom (suc n) t rest)
+sortFrom n type [] = 0
+sortFrom n type (ts ∷ rest) = cond (among type ts) n (sortFrom (suc n) type rest)
 
 unfoldable pub sortOf : Bytes → ℕ
-sortOf t = sortFrom 1 t sorts
+sortOf type = sortFrom 1 type sorts
 
 -- one rank serves for all spots of a type: no type has spots of two ranks
 abbrev pub codeRow : FormatRow → Row
-codeRow (row t n c) =
+codeRow (row type n c) =
     record {
-      a = getD t 0 0;
-      b = getD t 1 0;
-      c = getD t 2 0;
+      a = getD type 0 0;
+      b = getD type 1 0;
+      c = getD type 2 0;
       place = code c;
       length = n;
-      first = spotAt 0 t .stage;
-      second = spotAt 1 t .stage;
-      third = spotAt 2 t .stage;
-      rank = spotAt 0 t .rank;
-      alone = begins t;
-      sort = sortOf t;
+      first = spotAt 0 type .stage;
+      second = spotAt 1 type .stage;
+      third = spotAt 2 type .stage;
+      rank = spotAt 0 type .rank;
+      alone = begins type;
+      sort = sortOf type;
     }
 
 unfoldable pub kinds : List Row
@@ -63,7 +63,7 @@ kinds = map codeRow rows22
 
 -- the row of a type; where the format has no such type, that of `unknown`
 unfoldable pub rowFor : Bytes → Row
-rowFor t = codeRow (rowOf rows22 t)
+rowFor type = codeRow (rowOf rows22 type)
 
 -- ---- a search among the code's rows
 
@@ -74,8 +74,8 @@ abbrev pub noRow : Row
 noRow = record { a = 0; b = 0; c = 0; place = code unknown; length = 0; first = 0; second = 0; third = 0; rank = 0; alone = false; sort = 0 }
 
 abbrev pub firstOf : List Row → Bytes → Row
-firstOf [] t = noRow
-firstOf (r ∷ rs) t = cond (sameBytes (typeOf r) t) r (firstOf rs t)
+firstOf [] type = noRow
+firstOf (r ∷ rs) type = cond (sameBytes (typeOf r) type) r (firstOf rs type)
 
 -- ---- the spots that a row's columns say: a stage 0 is none
 

@@ -234,7 +234,7 @@ pub fn row_of(record: &[u8]) -> Row
 // row: the compiler would build it in memory.)
 pub fn confirmed(hinted: Row, record: &[u8]) -> Shape
     requires { ⌜ 3 ≤ length (now «record») ⌝ }
-    requires { ⌜ ((t : Bytes) → sameBytes (typeOf hinted) t ≡ true → hinted ≡ rowFor t) ⌝ }
+    requires { ⌜ ((type : Bytes) → sameBytes (typeOf hinted) type ≡ true → hinted ≡ rowFor type) ⌝ }
     ensures { λ r. ⌜ r ≡ shapeOf (rowFor (take 3 (now («record» .entry)))) ⌝ }
 {
     if is_type(hinted, record[0], record[1], record[2]) {
@@ -246,7 +246,7 @@ pub fn confirmed(hinted: Row, record: &[u8]) -> Shape
 // The row itself, for a walk that judges a record by more than its place and length.
 pub fn confirmed_row(hinted: Row, record: &[u8]) -> Row
     requires { ⌜ 3 ≤ length (now «record») ⌝ }
-    requires { ⌜ ((t : Bytes) → sameBytes (typeOf hinted) t ≡ true → hinted ≡ rowFor t) ⌝ }
+    requires { ⌜ ((type : Bytes) → sameBytes (typeOf hinted) type ≡ true → hinted ≡ rowFor type) ⌝ }
     ensures { λ r. ⌜ r ≡ rowFor (take 3 (now («record» .entry))) ⌝ }
 {
     let own = is_type(hinted, record[0], record[1], record[2]);

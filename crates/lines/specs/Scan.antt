@@ -11,7 +11,7 @@ use Rattle.lines.specs.declared.Scan.the-variants as scan
 -- how many bytes of text a list starts with
 abbrev pub textLength : Bytes → ℕ
 textLength [] = 0
-textLength (b ∷ t) = cond (isText b) (suc (textLength t)) 0
+textLength (b ∷ bs) = cond (isText b) (suc (textLength bs)) 0
 
 -- what a scan from a place on answers, with n lines before it: the number of all lines, or of those before the fault
 abbrev pub scanned : ℕ → Lines → Scan

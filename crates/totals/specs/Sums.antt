@@ -14,13 +14,13 @@ rights f = record { pr = f PR; mr = f MR; sr = f SR }
 abbrev pub plus : Rights → Rights → Rights
 plus a b = record { pr = a .pr + b .pr; mr = a .mr + b .mr; sr = a .sr + b .sr }
 
-pub record Sums (t : Totals) (ds : List Bytes) : Type 0 where
-  pub publishers : t .publishers ≡ rights (λ right. publishersTotal right ds)
-  pub writers : t .writers ≡ rights (λ right. writersTotal right ds)
+pub record Sums (totals : Totals) (ds : List Bytes) : Type 0 where
+  pub publishers : totals .publishers ≡ rights (λ right. publishersTotal right ds)
+  pub writers : totals .writers ≡ rights (λ right. writersTotal right ds)
 
 -- none is over k
 abbrev pub AtMost : ℕ → Rights → Type 0
 AtMost k r = (r .pr ≤ k) × (r .mr ≤ k) × (r .sr ≤ k)
 
 abbrev pub Below : ℕ → Totals → Type 0
-Below k t = AtMost k (t .publishers) × AtMost k (t .writers)
+Below k totals = AtMost k (totals .publishers) × AtMost k (totals .writers)
