@@ -69,7 +69,7 @@ pub fn knows_e(k: usize, own: &[bool; 100]) -> bool
 }
 
 // Finding 12: in some chain begun by SPU, the SPU records of type E and AQ have no share.
-pub fn shareless(begun: &[u8; 100], sums: &[u64; 100]) -> bool
+pub fn found_12(begun: &[u8; 100], sums: &[u64; 100]) -> bool
     ensures { λ b. ⌜ ((ds : List Bytes) → TallyOf (now (begun .entry)) 0 begunBy ds → TallyOf (now (sums .entry)) 0 ownShares ds → b ≡ is12 ds) ⌝ }
 {
     let mut found = false;

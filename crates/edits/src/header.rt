@@ -13,7 +13,7 @@ ghost use Rattle.edits.specs.Judged.{Judged};
 use super::Found;
 
 // Title blank.
-fn found16(record: &[u8]) -> bool
+fn found_16(record: &[u8]) -> bool
     requires { ⌜ Header (now «record») ⌝ }
     ensures { λ r. ⌜ r ≡ is16 (now («record» .entry)) ⌝ }
 {
@@ -21,7 +21,7 @@ fn found16(record: &[u8]) -> bool
 }
 
 // Language entered and not in the table.
-fn found17(record: &[u8], languages: &[u8], slots: &[u16]) -> bool
+fn found_17(record: &[u8], languages: &[u8], slots: &[u16]) -> bool
     requires { ⌜ Header (now «record») ⌝ }
     requires { ⌜ Indexed 2 (now languages) (now slots) ⌝ }
     ensures { λ r. ⌜ ((tables : Tables) → tables .languages ≡ now (languages .entry) → r ≡ is17 tables (now («record» .entry))) ⌝ }
@@ -34,7 +34,7 @@ fn found17(record: &[u8], languages: &[u8], slots: &[u16]) -> bool
 }
 
 // Work number blank.
-fn found18(record: &[u8]) -> bool
+fn found_18(record: &[u8]) -> bool
     requires { ⌜ Header (now «record») ⌝ }
     ensures { λ r. ⌜ r ≡ is18 (now («record» .entry)) ⌝ }
 {
@@ -42,7 +42,7 @@ fn found18(record: &[u8]) -> bool
 }
 
 // ISWC entered and invalid.
-fn found19(record: &[u8]) -> bool
+fn found_19(record: &[u8]) -> bool
     requires { ⌜ Header (now «record») ⌝ }
     ensures { λ r. ⌜ r ≡ is19 (now («record» .entry)) ⌝ }
 {
@@ -51,7 +51,7 @@ fn found19(record: &[u8]) -> bool
 }
 
 // Copyright date not zeros and invalid.
-fn found20(record: &[u8]) -> bool
+fn found_20(record: &[u8]) -> bool
     requires { ⌜ Header (now «record») ⌝ }
     ensures { λ r. ⌜ r ≡ is20 (now («record» .entry)) ⌝ }
 {
@@ -60,7 +60,7 @@ fn found20(record: &[u8]) -> bool
 }
 
 // Category not in the table; a blank one never is.
-fn found21(record: &[u8], categories: &[u8], slots: &[u16]) -> bool
+fn found_21(record: &[u8], categories: &[u8], slots: &[u16]) -> bool
     requires { ⌜ Header (now «record») ⌝ }
     requires { ⌜ Indexed 3 (now categories) (now slots) ⌝ }
     ensures { λ r. ⌜ ((tables : Tables) → tables .categories ≡ now (categories .entry) → r ≡ is21 tables (now («record» .entry))) ⌝ }
@@ -79,7 +79,7 @@ fn serious(record: &[u8]) -> bool
 }
 
 // Category SER, and duration zero or invalid.
-fn found22(record: &[u8]) -> bool
+fn found_22(record: &[u8]) -> bool
     requires { ⌜ Header (now «record») ⌝ }
     ensures { λ r. ⌜ r ≡ is22 (now («record» .entry)) ⌝ }
 {
@@ -88,7 +88,7 @@ fn found22(record: &[u8]) -> bool
 }
 
 // Another category, and duration invalid.
-fn found23(record: &[u8]) -> bool
+fn found_23(record: &[u8]) -> bool
     requires { ⌜ Header (now «record») ⌝ }
     ensures { λ r. ⌜ r ≡ is23 (now («record» .entry)) ⌝ }
 {
@@ -134,13 +134,13 @@ pub fn judge(
     ensures { λ r. ⌜ ((tables : Tables) → tables .languages ≡ now (languages .entry) → tables .categories ≡ now (categories .entry) → (before : List Bytes) → Judged tables before (now («record» .entry)) r) ⌝ }
 {
     gather(
-        found16(record),
-        found17(record, languages, language_slots),
-        found18(record),
-        found19(record),
-        found20(record),
-        found21(record, categories, category_slots),
-        found22(record),
-        found23(record),
+        found_16(record),
+        found_17(record, languages, language_slots),
+        found_18(record),
+        found_19(record),
+        found_20(record),
+        found_21(record, categories, category_slots),
+        found_22(record),
+        found_23(record),
     )
 }

@@ -53,7 +53,7 @@ pub fn performer(record: &[u8]) -> Found
 // ---- REC
 
 // Release date not zeros and invalid.
-fn found45(record: &[u8]) -> bool
+fn found_45(record: &[u8]) -> bool
     requires { ⌜ Recording (now «record») ⌝ }
     ensures { λ r. ⌜ r ≡ is45 (now («record» .entry)) ⌝ }
 {
@@ -62,7 +62,7 @@ fn found45(record: &[u8]) -> bool
 }
 
 // Duration invalid.
-fn found46(record: &[u8]) -> bool
+fn found_46(record: &[u8]) -> bool
     requires { ⌜ Recording (now «record») ⌝ }
     ensures { λ r. ⌜ r ≡ is46 (now («record» .entry)) ⌝ }
 {
@@ -70,7 +70,7 @@ fn found46(record: &[u8]) -> bool
 }
 
 // With these defaults in force date and duration are zeros, and 99 to 540 is blank.
-fn found44(record: &[u8], b45: bool, b46: bool) -> bool
+fn found_44(record: &[u8], b45: bool, b46: bool) -> bool
     requires { ⌜ Recording (now «record») ⌝ }
     requires { ⌜ (b45 ≡ is45 (now «record»)) × (b46 ≡ is46 (now «record»)) ⌝ }
     ensures { λ r. ⌜ r ≡ is44 (now («record» .entry)) ⌝ }
@@ -98,7 +98,7 @@ pub fn recording(record: &[u8]) -> Found
     requires { ⌜ Recording (now «record») ⌝ }
     ensures { λ r. ⌜ ((tables : Tables) (before : List Bytes) → Judged tables before (now («record» .entry)) r) ⌝ }
 {
-    let b45 = found45(record);
-    let b46 = found46(record);
-    gather(found44(record, b45, b46), b45, b46)
+    let b45 = found_45(record);
+    let b46 = found_46(record);
+    gather(found_44(record, b45, b46), b45, b46)
 }

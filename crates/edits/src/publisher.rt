@@ -46,7 +46,7 @@ pub fn sequence(record: &[u8]) -> u64
 
 // The number does not follow that of the publisher record before, which is 100 where that has none, and 101 where there is no such
 // record: then 01 must stand here.
-fn found25(record: &[u8], last: u64) -> bool
+fn found_25(record: &[u8], last: u64) -> bool
     requires { ⌜ Publisher (now «record») ⌝ }
     requires { ⌜ last ≤ 101 ⌝ }
     ensures { λ r. ⌜ ((before : List Bytes) → last ≡ lastSequence before → r ≡ is25 before (now («record» .entry))) ⌝ }
@@ -102,7 +102,7 @@ fn is_byte(field: &[u8], b: u8) -> bool
 }
 
 // OPU indicator not blank, Y or N.
-fn found33(record: &[u8]) -> bool
+fn found_33(record: &[u8]) -> bool
     requires { ⌜ Publisher (now «record») ⌝ }
     ensures { λ r. ⌜ r ≡ is33 (now («record» .entry)) ⌝ }
 {
@@ -112,7 +112,7 @@ fn found33(record: &[u8]) -> bool
 }
 
 // OPU indicator Y with a name.
-fn found34(record: &[u8]) -> bool
+fn found_34(record: &[u8]) -> bool
     requires { ⌜ Publisher (now «record») ⌝ }
     ensures { λ r. ⌜ r ≡ is34 (now («record» .entry)) ⌝ }
 {
@@ -147,7 +147,7 @@ fn read_shares(record: &[u8]) -> Shares
 // ---- the other findings
 
 // SPU party number blank.
-fn found26(record: &[u8]) -> bool
+fn found_26(record: &[u8]) -> bool
     requires { ⌜ Publisher (now «record») ⌝ }
     ensures { λ r. ⌜ r ≡ is26 (now («record» .entry)) ⌝ }
 {
@@ -155,7 +155,7 @@ fn found26(record: &[u8]) -> bool
 }
 
 // Name blank where SPU, or OPU whose indicator isn't Y.
-fn found27(record: &[u8]) -> bool
+fn found_27(record: &[u8]) -> bool
     requires { ⌜ Publisher (now «record») ⌝ }
     ensures { λ r. ⌜ r ≡ is27 (now («record» .entry)) ⌝ }
 {
@@ -165,7 +165,7 @@ fn found27(record: &[u8]) -> bool
 }
 
 // SPU type not in the table.
-fn found28(record: &[u8], place: u8) -> bool
+fn found_28(record: &[u8], place: u8) -> bool
     requires { ⌜ Publisher (now «record») ⌝ }
     requires { ⌜ place ≡ placeOf (publisherType (now «record»)) publisherTypes ⌝ }
     ensures { λ r. ⌜ r ≡ is28 (now («record» .entry)) ⌝ }
@@ -174,7 +174,7 @@ fn found28(record: &[u8], place: u8) -> bool
 }
 
 // SPU indicator not blank.
-fn found29(record: &[u8]) -> bool
+fn found_29(record: &[u8]) -> bool
     requires { ⌜ Publisher (now «record») ⌝ }
     ensures { λ r. ⌜ r ≡ is29 (now («record» .entry)) ⌝ }
 {
@@ -182,7 +182,7 @@ fn found29(record: &[u8]) -> bool
 }
 
 // A share above 0, and type neither E nor AQ.
-fn found31(record: &[u8], force: u8, some: bool) -> bool
+fn found_31(record: &[u8], force: u8, some: bool) -> bool
     requires { ⌜ Publisher (now «record») ⌝ }
     requires { ⌜ force ≡ placeOf (typeInForce (now «record»)) publisherTypes ⌝ }
     requires { ⌜ some ≡ hasShare (now «record») ⌝ }
@@ -192,7 +192,7 @@ fn found31(record: &[u8], force: u8, some: bool) -> bool
 }
 
 // AQ SPU with no earlier E SPU in its chain.
-fn found32(record: &[u8], force: u8, known: bool) -> bool
+fn found_32(record: &[u8], force: u8, known: bool) -> bool
     requires { ⌜ Publisher (now «record») ⌝ }
     requires { ⌜ force ≡ placeOf (typeInForce (now «record»)) publisherTypes ⌝ }
     ensures { λ r. ⌜ ((before : List Bytes) → known ≡ earlierE before (now («record» .entry)) → r ≡ is32 before (now («record» .entry))) ⌝ }
@@ -201,7 +201,7 @@ fn found32(record: &[u8], force: u8, known: bool) -> bool
 }
 
 // OPU type not in the table.
-fn found35(record: &[u8], place: u8) -> bool
+fn found_35(record: &[u8], place: u8) -> bool
     requires { ⌜ Publisher (now «record») ⌝ }
     requires { ⌜ place ≡ placeOf (publisherType (now «record»)) publisherTypes ⌝ }
     ensures { λ r. ⌜ r ≡ is35 (now («record» .entry)) ⌝ }
@@ -221,7 +221,7 @@ fn unknown(code: &[u8], societies: &[u8], slots: &[u16]) -> bool
     !tables::has(societies, slots, code)
 }
 
-fn found36(record: &[u8], societies: &[u8], slots: &[u16]) -> bool
+fn found_36(record: &[u8], societies: &[u8], slots: &[u16]) -> bool
     requires { ⌜ Publisher (now «record») ⌝ }
     requires { ⌜ Indexed 3 (now societies) (now slots) ⌝ }
     ensures { λ r. ⌜ ((tables : Tables) → tables .societies ≡ now (societies .entry) → r ≡ is36 tables (now («record» .entry))) ⌝ }
@@ -232,7 +232,7 @@ fn found36(record: &[u8], societies: &[u8], slots: &[u16]) -> bool
 }
 
 // Tax number entered, not digits.
-fn found37(record: &[u8]) -> bool
+fn found_37(record: &[u8]) -> bool
     requires { ⌜ Publisher (now «record») ⌝ }
     ensures { λ r. ⌜ r ≡ is37 (now («record» .entry)) ⌝ }
 {
@@ -290,18 +290,18 @@ pub fn judge(record: &[u8], societies: &[u8], slots: &[u16], last: u64, known: b
     let force = in_force(record, place);
     let held = read_shares(record);
     gather(
-        found25(record, last),
-        found26(record),
-        found27(record),
-        found28(record, place),
-        found29(record),
+        found_25(record, last),
+        found_26(record),
+        found_27(record),
+        found_28(record, place),
+        found_29(record),
         held.bad,
-        found31(record, force, held.some),
-        found32(record, force, known),
-        found33(record),
-        found34(record),
-        found35(record, place),
-        found36(record, societies, slots),
-        found37(record),
+        found_31(record, force, held.some),
+        found_32(record, force, known),
+        found_33(record),
+        found_34(record),
+        found_35(record, place),
+        found_36(record, societies, slots),
+        found_37(record),
     )
 }

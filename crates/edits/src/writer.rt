@@ -46,7 +46,7 @@ pub fn designation_in_force(record: &[u8]) -> u8
 }
 
 // SWR last name blank.
-fn found38(record: &[u8]) -> bool
+fn found_38(record: &[u8]) -> bool
     requires { ⌜ Writer (now «record») ⌝ }
     ensures { λ r. ⌜ r ≡ is38 (now («record» .entry)) ⌝ }
 {
@@ -54,7 +54,7 @@ fn found38(record: &[u8]) -> bool
 }
 
 // SWR designation not in the table.
-fn found39(record: &[u8], place: u8) -> bool
+fn found_39(record: &[u8], place: u8) -> bool
     requires { ⌜ Writer (now «record») ⌝ }
     requires { ⌜ place ≡ placeOf (designation (now «record»)) designations ⌝ }
     ensures { λ r. ⌜ r ≡ is39 (now («record» .entry)) ⌝ }
@@ -63,7 +63,7 @@ fn found39(record: &[u8], place: u8) -> bool
 }
 
 // OWR designation entered, not in the table.
-fn found40(record: &[u8], place: u8) -> bool
+fn found_40(record: &[u8], place: u8) -> bool
     requires { ⌜ Writer (now «record») ⌝ }
     requires { ⌜ place ≡ placeOf (designation (now «record»)) designations ⌝ }
     ensures { λ r. ⌜ r ≡ is40 (now («record» .entry)) ⌝ }
@@ -72,7 +72,7 @@ fn found40(record: &[u8], place: u8) -> bool
 }
 
 // A share that isn't five digits, or is over 10000.
-fn found41(record: &[u8]) -> bool
+fn found_41(record: &[u8]) -> bool
     requires { ⌜ Writer (now «record») ⌝ }
     ensures { λ r. ⌜ r ≡ is41 (now («record» .entry)) ⌝ }
 {
@@ -82,7 +82,7 @@ fn found41(record: &[u8]) -> bool
 }
 
 // SWR party number blank.
-fn found42(record: &[u8]) -> bool
+fn found_42(record: &[u8]) -> bool
     requires { ⌜ Writer (now «record») ⌝ }
     ensures { λ r. ⌜ r ≡ is42 (now («record» .entry)) ⌝ }
 {
@@ -108,10 +108,10 @@ pub fn judge(record: &[u8]) -> Found
 {
     let place = designation_in_force(record);
     gather(
-        found38(record),
-        found39(record, place),
-        found40(record, place),
-        found41(record),
-        found42(record),
+        found_38(record),
+        found_39(record, place),
+        found_40(record, place),
+        found_41(record),
+        found_42(record),
     )
 }

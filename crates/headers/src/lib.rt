@@ -40,7 +40,7 @@ pub struct Head {
 pub const GR: u8 = 4;
 
 // The header's type is not the one that GRH names.
-fn found0(header: &[u8], named: &[u8]) -> bool
+fn found_0(header: &[u8], named: &[u8]) -> bool
     requires { ⌜ Header (now header) ⌝ }
     ensures { λ r. ⌜ r ≡ is0 (now (named .entry)) (now (header .entry)) ⌝ }
 {
@@ -48,14 +48,14 @@ fn found0(header: &[u8], named: &[u8]) -> bool
 }
 
 // No writer.
-fn found4(marks: Marks) -> bool
+fn found_4(marks: Marks) -> bool
     ensures { λ r. ⌜ ((ds : List Bytes) → Marked marks ds → r ≡ is4 ds) ⌝ }
 {
     !marks.writer
 }
 
 // No writer that makes a work.
-fn found5(marks: Marks) -> bool
+fn found_5(marks: Marks) -> bool
     ensures { λ r. ⌜ ((ds : List Bytes) → Marked marks ds → r ≡ is5 ds) ⌝ }
 {
     !marks.creator
@@ -69,7 +69,7 @@ fn version_type(header: &[u8]) -> &[u8]
 }
 
 // A modified version, and no writer that changes a work.
-fn found6(header: &[u8], marks: Marks) -> bool
+fn found_6(header: &[u8], marks: Marks) -> bool
     requires { ⌜ Header (now header) ⌝ }
     ensures { λ r. ⌜ ((ds : List Bytes) → Marked marks ds → r ≡ is6 (now (header .entry)) ds) ⌝ }
 {
@@ -77,7 +77,7 @@ fn found6(header: &[u8], marks: Marks) -> bool
 }
 
 // An original work, and such a writer.
-fn found7(header: &[u8], marks: Marks) -> bool
+fn found_7(header: &[u8], marks: Marks) -> bool
     requires { ⌜ Header (now header) ⌝ }
     ensures { λ r. ⌜ ((ds : List Bytes) → Marked marks ds → r ≡ is7 (now (header .entry)) ds) ⌝ }
 {
@@ -85,7 +85,7 @@ fn found7(header: &[u8], marks: Marks) -> bool
 }
 
 // Category SER, and neither INS nor IND.
-fn found9(header: &[u8], marks: Marks) -> bool
+fn found_9(header: &[u8], marks: Marks) -> bool
     requires { ⌜ Header (now header) ⌝ }
     ensures { λ r. ⌜ ((ds : List Bytes) → Marked marks ds → r ≡ is9 (now (header .entry)) ds) ⌝ }
 {
@@ -93,7 +93,7 @@ fn found9(header: &[u8], marks: Marks) -> bool
 }
 
 // Music alone by the relationship of text and music, and a writer of text.
-fn found10(header: &[u8], marks: Marks) -> bool
+fn found_10(header: &[u8], marks: Marks) -> bool
     requires { ⌜ Header (now header) ⌝ }
     ensures { λ r. ⌜ ((ds : List Bytes) → Marked marks ds → r ≡ is10 (now (header .entry)) ds) ⌝ }
 {
@@ -101,7 +101,7 @@ fn found10(header: &[u8], marks: Marks) -> bool
 }
 
 // More than one EWT, or more than one VER.
-fn found15(marks: Marks) -> bool
+fn found_15(marks: Marks) -> bool
     ensures { λ r. ⌜ ((ds : List Bytes) → Marked marks ds → r ≡ is15 ds) ⌝ }
 {
     marks.ewts | marks.vers
@@ -170,22 +170,22 @@ pub fn judge(header: &[u8], named: &[u8], own: Found, y: Tally, links: Links, t:
     let order = y.order;
     let marks = y.marks;
     gather(
-        found0(header, named),
-        totals.publishers_exceed(t),
-        totals.writers_miss(t),
-        totals.incomplete(t),
-        found4(marks),
-        found5(marks),
-        found6(header, marks),
-        found7(header, marks),
-        order.is_broken(),
-        found9(header, marks),
-        found10(header, marks),
+        found_0(header, named),
+        totals.found_1(t),
+        totals.found_2(t),
+        totals.found_3(t),
+        found_4(marks),
+        found_5(marks),
+        found_6(header, marks),
+        found_7(header, marks),
+        order.found_8(),
+        found_9(header, marks),
+        found_10(header, marks),
         links.many,
         links.shareless,
         links.joined,
         links.kept,
-        found15(marks),
+        found_15(marks),
         own,
     )
 }

@@ -56,7 +56,7 @@ impl Order {
     }
 
     // Whether the records were out of order.
-    pub fn is_broken(self) -> bool
+    pub fn found_8(self) -> bool
         ensures { λ r. ⌜ ((ds : List Bytes) → standing self ≡ reached ds → r ≡ is8 ds) ⌝ }
     {
         self.broken

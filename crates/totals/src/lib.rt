@@ -81,7 +81,7 @@ impl Totals {
     }
 
     // Finding 1: the publishers' totals are too high.
-    pub fn publishers_exceed(self, t: u64) -> bool
+    pub fn found_1(self, t: u64) -> bool
         requires { ⌜ t ≤ largestTolerance ⌝ }
         ensures { λ r. ⌜ ((ds : List Bytes) → Sums self ds → r ≡ is1 t ds) ⌝ }
     {
@@ -92,7 +92,7 @@ impl Totals {
     }
 
     // Finding 2: the writers' total for performing rights is too low, or one of theirs is too high.
-    pub fn writers_miss(self, t: u64) -> bool
+    pub fn found_2(self, t: u64) -> bool
         requires { ⌜ t ≤ largestTolerance ⌝ }
         ensures { λ r. ⌜ ((ds : List Bytes) → Sums self ds → r ≡ is2 t ds) ⌝ }
     {
@@ -104,7 +104,7 @@ impl Totals {
     }
 
     // Finding 3: some right is neither without shares nor shared out in full.
-    pub fn incomplete(self, t: u64) -> bool
+    pub fn found_3(self, t: u64) -> bool
         requires { ⌜ (t ≤ largestTolerance) × Below (2 ^ 60) self ⌝ }
         ensures { λ r. ⌜ ((ds : List Bytes) → Sums self ds → r ≡ is3 t ds) ⌝ }
     {

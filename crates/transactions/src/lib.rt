@@ -129,7 +129,7 @@ fn links_of(met: Met, begun: &[u8; 100], sums: &[u64; 100]) -> Links
 {
     Links {
         many: met.many,
-        shareless: chains::shareless(begun, sums),
+        shareless: chains::found_12(begun, sums),
         joined: met.joined,
         kept: met.kept,
     }

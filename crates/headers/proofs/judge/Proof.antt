@@ -26,22 +26,22 @@ returns c tables ds k l j =
     let h = at0 .before .before .before .before .before .before .args .header .now in
     let own = own-late tables [] h in
     rw (
-      ← at0 .found0 .ensures,
-      ← at1 .publishers-exceed .ensures ds (k .totals),
-      ← at2 .writers-miss .ensures ds (k .totals),
-      ← at3 .incomplete .ensures ds (k .totals),
-      ← at4 .found4 .ensures ds (k .marks),
-      ← at5 .found5 .ensures ds (k .marks),
-      ← at6 .found6 .ensures ds (k .marks),
-      ← at7 .found7 .ensures ds (k .marks),
-      ← at8 .is-broken .ensures ds (k .order),
-      ← at9 .found9 .ensures ds (k .marks),
-      ← at10 .found10 .ensures ds (k .marks),
+      ← at0 .found-0 .ensures,
+      ← at1 .found-1 .ensures ds (k .totals),
+      ← at2 .found-2 .ensures ds (k .totals),
+      ← at3 .found-3 .ensures ds (k .totals),
+      ← at4 .found-4 .ensures ds (k .marks),
+      ← at5 .found-5 .ensures ds (k .marks),
+      ← at6 .found-6 .ensures ds (k .marks),
+      ← at7 .found-7 .ensures ds (k .marks),
+      ← at8 .found-8 .ensures ds (k .order),
+      ← at9 .found-9 .ensures ds (k .marks),
+      ← at10 .found-10 .ensures ds (k .marks),
       ← l .many,
       ← l .shareless,
       ← l .joined,
       ← l .kept,
-      ← at15 .found15 .ensures ds (k .marks),
+      ← at15 .found-15 .ensures ds (k .marks),
     )
     (c .gather .ensures (fieldFindings tables [] h) (j .set ∙ ap setOf own) (j .level ∙ ap worst own))
 

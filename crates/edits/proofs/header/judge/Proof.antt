@@ -11,7 +11,7 @@ returns c =
     let r = s .args .record .now in
     λ t el ec before.
     let own = own-header t before r (s .pre .0 .1) in
-    record { set = rw (own, ← c .before .before .before .before .before .before .before .before .found16 .ensures, ← c .before .before .before .before .before .before .before .found17 .ensures t el, ← c .before .before .before .before .before .before .found18 .ensures, ← c .before .before .before .before .before .found19 .ensures, ← c .before .before .before .before .found20 .ensures, ← c .before .before .before .found21 .ensures t ec, ← c .before .before .found22 .ensures, ← c .before .found23 .ensures) (c .gather .ensures .0); level = rw (own, ← c .before .before .before .before .before .before .before .before .found16 .ensures, ← c .before .before .before .before .before .before .before .found17 .ensures t el, ← c .before .before .before .before .before .before .found18 .ensures, ← c .before .before .before .before .before .found19 .ensures, ← c .before .before .before .before .found20 .ensures, ← c .before .before .before .found21 .ensures t ec, ← c .before .before .found22 .ensures, ← c .before .found23 .ensures) (c .gather .ensures .1) }
+    record { set = rw (own, ← c .before .before .before .before .before .before .before .before .found-16 .ensures, ← c .before .before .before .before .before .before .before .found-17 .ensures t el, ← c .before .before .before .before .before .before .found-18 .ensures, ← c .before .before .before .before .before .found-19 .ensures, ← c .before .before .before .before .found-20 .ensures, ← c .before .before .before .found-21 .ensures t ec, ← c .before .before .found-22 .ensures, ← c .before .found-23 .ensures) (c .gather .ensures .0); level = rw (own, ← c .before .before .before .before .before .before .before .before .found-16 .ensures, ← c .before .before .before .before .before .before .before .found-17 .ensures t el, ← c .before .before .before .before .before .before .found-18 .ensures, ← c .before .before .before .before .before .found-19 .ensures, ← c .before .before .before .before .found-20 .ensures, ← c .before .before .before .found-21 .ensures t ec, ← c .before .before .found-22 .ensures, ← c .before .found-23 .ensures) (c .gather .ensures .1) }
 
 pub judge-spec : {M : Type 1} → statement M
 judge-spec =

@@ -11,7 +11,7 @@ returns c =
     let r = s .args .record .now in
     λ t before.
     let own = own-recording t before r (s .pre .1) in
-    record { set = rw (own, ← c .before .found44 .ensures, ← c .before .before .before .found45 .ensures, ← c .before .before .found46 .ensures) (c .gather .ensures .0); level = rw (own, ← c .before .found44 .ensures, ← c .before .before .before .found45 .ensures, ← c .before .before .found46 .ensures) (c .gather .ensures .1) }
+    record { set = rw (own, ← c .before .found-44 .ensures, ← c .before .before .before .found-45 .ensures, ← c .before .before .found-46 .ensures) (c .gather .ensures .0); level = rw (own, ← c .before .found-44 .ensures, ← c .before .before .before .found-45 .ensures, ← c .before .before .found-46 .ensures) (c .gather .ensures .1) }
 
 pub recording-spec : {M : Type 1} → statement M
 recording-spec =

@@ -11,7 +11,7 @@ returns c =
     let r = s .args .record .now in
     λ t es before el ek.
     let own = own-publisher t before r (s .pre .0 .1) in
-    record { set = rw (own, ← c .before .before .before .before .before .before .before .before .before .before .before .before .found25 .ensures before el, ← c .before .before .before .before .before .before .before .before .before .before .before .found26 .ensures, ← c .before .before .before .before .before .before .before .before .before .before .found27 .ensures, ← c .before .before .before .before .before .before .before .before .before .found28 .ensures, ← c .before .before .before .before .before .before .before .before .found29 .ensures, ← c .before .before .before .before .before .before .before .before .before .before .before .before .before .read-shares .ensures .0, ← c .before .before .before .before .before .before .before .found31 .ensures, ← c .before .before .before .before .before .before .found32 .ensures before ek, ← c .before .before .before .before .before .found33 .ensures, ← c .before .before .before .before .found34 .ensures, ← c .before .before .before .found35 .ensures, ← c .before .before .found36 .ensures t es, ← c .before .found37 .ensures) (c .gather .ensures .0); level = rw (own, ← c .before .before .before .before .before .before .before .before .before .before .before .before .found25 .ensures before el, ← c .before .before .before .before .before .before .before .before .before .before .before .found26 .ensures, ← c .before .before .before .before .before .before .before .before .before .before .found27 .ensures, ← c .before .before .before .before .before .before .before .before .before .found28 .ensures, ← c .before .before .before .before .before .before .before .before .found29 .ensures, ← c .before .before .before .before .before .before .before .before .before .before .before .before .before .read-shares .ensures .0, ← c .before .before .before .before .before .before .before .found31 .ensures, ← c .before .before .before .before .before .before .found32 .ensures before ek, ← c .before .before .before .before .before .found33 .ensures, ← c .before .before .before .before .found34 .ensures, ← c .before .before .before .found35 .ensures, ← c .before .before .found36 .ensures t es, ← c .before .found37 .ensures) (c .gather .ensures .1) }
+    record { set = rw (own, ← c .before .before .before .before .before .before .before .before .before .before .before .before .found-25 .ensures before el, ← c .before .before .before .before .before .before .before .before .before .before .before .found-26 .ensures, ← c .before .before .before .before .before .before .before .before .before .before .found-27 .ensures, ← c .before .before .before .before .before .before .before .before .before .found-28 .ensures, ← c .before .before .before .before .before .before .before .before .found-29 .ensures, ← c .before .before .before .before .before .before .before .before .before .before .before .before .before .read-shares .ensures .0, ← c .before .before .before .before .before .before .before .found-31 .ensures, ← c .before .before .before .before .before .before .found-32 .ensures before ek, ← c .before .before .before .before .before .found-33 .ensures, ← c .before .before .before .before .found-34 .ensures, ← c .before .before .before .found-35 .ensures, ← c .before .before .found-36 .ensures t es, ← c .before .found-37 .ensures) (c .gather .ensures .0); level = rw (own, ← c .before .before .before .before .before .before .before .before .before .before .before .before .found-25 .ensures before el, ← c .before .before .before .before .before .before .before .before .before .before .before .found-26 .ensures, ← c .before .before .before .before .before .before .before .before .before .before .found-27 .ensures, ← c .before .before .before .before .before .before .before .before .before .found-28 .ensures, ← c .before .before .before .before .before .before .before .before .found-29 .ensures, ← c .before .before .before .before .before .before .before .before .before .before .before .before .before .read-shares .ensures .0, ← c .before .before .before .before .before .before .before .found-31 .ensures, ← c .before .before .before .before .before .before .found-32 .ensures before ek, ← c .before .before .before .before .before .found-33 .ensures, ← c .before .before .before .before .found-34 .ensures, ← c .before .before .before .found-35 .ensures, ← c .before .before .found-36 .ensures t es, ← c .before .found-37 .ensures) (c .gather .ensures .1) }
 
 pub judge-spec : {M : Type 1} → statement M
 judge-spec =

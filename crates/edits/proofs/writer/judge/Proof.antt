@@ -11,7 +11,7 @@ returns c =
     let r = s .args .record .now in
     λ t before.
     let own = own-writer t before r (s .pre .1) in
-    record { set = rw (own, ← c .before .before .before .before .before .found38 .ensures, ← c .before .before .before .before .found39 .ensures, ← c .before .before .before .found40 .ensures, ← c .before .before .found41 .ensures, ← c .before .found42 .ensures) (c .gather .ensures .0); level = rw (own, ← c .before .before .before .before .before .found38 .ensures, ← c .before .before .before .before .found39 .ensures, ← c .before .before .before .found40 .ensures, ← c .before .before .found41 .ensures, ← c .before .found42 .ensures) (c .gather .ensures .1) }
+    record { set = rw (own, ← c .before .before .before .before .before .found-38 .ensures, ← c .before .before .before .before .found-39 .ensures, ← c .before .before .before .found-40 .ensures, ← c .before .before .found-41 .ensures, ← c .before .found-42 .ensures) (c .gather .ensures .0); level = rw (own, ← c .before .before .before .before .before .found-38 .ensures, ← c .before .before .before .before .found-39 .ensures, ← c .before .before .before .found-40 .ensures, ← c .before .before .found-41 .ensures, ← c .before .found-42 .ensures) (c .gather .ensures .1) }
 
 pub judge-spec : {M : Type 1} → statement M
 judge-spec =

@@ -1,0 +1,16 @@
+-- `edits::publisher::found_33` meets its contract.
+-- Assumes nothing.
+use Rattle.rules.specs.Publisher.{is33}
+use borrow.Author.Needs.{needs}
+use Rattle.edits.proofs.publisher.found_33.Statement.{statement}
+use Rattle.edits.proofs.publisher.found_33.Tie as tie
+
+returns : tie.Need-returns
+unfolding is33
+returns c = cc
+
+pub found-33-spec : {M : Type 1} → statement M
+found-33-spec =
+    tie.close
+    (tie.spec
+    (λ c κs. search needs) (λ c κs. search needs) (λ c κs. search needs) (λ c κs. search needs) (λ c κs. search needs) returns)
