@@ -23,7 +23,7 @@ use Rattle.structure.specs.Cursor.{Here}
 use Rattle.buffers.proofs.Entries.{kept-v, kept-f}
 use Rattle.transactions.specs.declared.Passed.{Passed}
 use Rattle.transactions.specs.Walk.{restAt, tailOf, frontOf, Room, Transacted}
-use Rattle.rules.proofs.Verdicts.{any-after}
+use Rattle.rules.proofs.Lists.{any-last}
 use Rattle.transactions.proofs.Laws.{length-details, some-record}
 use Rattle.files.specs.Levels.{transactionsOf, isStrayAmong, Judged}
 use Rattle.files.proofs.Controls.{follows, head-after, grt-after, as-head}
@@ -153,7 +153,7 @@ module _ (tables : Tables) (t : ℕ) (named f : Bytes) (start i : ℕ) (v₀ g�
           stray =
               ap (λ b. b || q .stray) (among .stray)
               ∙ ap (λ b. isStrayAmong named xs || b) (done .stray)
-              ∙ sym (any-after (λ (x : Transaction). is0 named (x .header)) xs (frontOf (restAt f (p .at))));
+              ∙ sym (any-last (λ (x : Transaction). is0 named (x .header)) xs (frontOf (restAt f (p .at))));
         },
       )
 

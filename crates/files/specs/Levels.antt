@@ -11,7 +11,7 @@ use Rattle.format.specs.Cwr22.{cwr22}
 use Rattle.format.specs.Structure.{firstOf}
 use Rattle.format.specs.Tree.{span, after, isInside, transactionsIn}
 use Rattle.rules.specs.Works.{is0}
-use Rattle.rules.specs.Verdicts.{anyOf}
+use Rattle.rules.specs.Records.{any}
 use Rattle.structure.specs.Cursor.{Here}
 use Rattle.buffers.specs.Written.{Written}
 use Rattle.transactions.specs.Walk.{tailOf}
@@ -22,7 +22,7 @@ transactionsOf rs = transactionsIn cwr22 (span (isInside cwr22) rs)
 
 -- some header of them differs from the type that GRH names
 abbrev pub isStrayAmong : Bytes → List Transaction → Bool
-isStrayAmong named xs = anyOf (λ (x : Transaction). is0 named (x .header)) xs
+isStrayAmong named xs = any (λ (x : Transaction). is0 named (x .header)) xs
 
 -- the group that a GRH at the front of the records opens, and the records after it
 abbrev pub groupOf : List Bytes → Group

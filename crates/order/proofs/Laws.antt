@@ -6,7 +6,7 @@ use mathlib.Core.Path.{_≡_, refl, sym, ap, _∙_}
 use mathlib.Core.Bool.{Bool, true, false, not, cond, _&&_, _||_, or-false}
 use mathlib.Core.Option.{Option, none, some}
 use mathlib.Core.List.{List, [], _∷_, _++_, map, map-append}
-use lib.Dec.{leb, ltb, eqb}
+use lib.Dec.{ltb, eqb}
 use borrow.Author.Tests.{eqb-true}
 use lib.ListN.{length, take}
 use Rattle.format.specs.Ascii.{ascii}
@@ -25,7 +25,7 @@ use Rattle.kinds.specs.declared.Row.{Row}
 use Rattle.kinds.proofs.Laws.{inClass, of-class, stage-spots, alone-begins}
 use Rattle.format.proofs.Tests.{by-cases}
 use Rattle.order.specs.declared.Order.{Order}
-use Rattle.order.specs.Walk.{firstFit, taken, on, walk, nowhere, reached, standing}
+use Rattle.order.specs.Walk.{firstFit, taken, on, walk, nowhere, reached, spotOf, standing, takes}
 
 -- ---- the walk decides finding 8
 
@@ -116,11 +116,6 @@ reached-on ds r e =
 fit-column : (fits : Spot → Bool) (n k : ℕ) (qs : List Spot) → firstFit fits (column n k qs) ≡ cond (ltb 0 n && fits (spot n k)) (some (spot n k)) (firstFit fits qs)
 fit-column fits n k qs = by-cases (ltb 0 n) (λ e. rw e) (λ e. rw e)
 
--- whether an `Order` may take its spot in that stage: as `Order::takes` says it
-abbrev pub takes : Order → Row → ℕ → Bool
-takes o kind n =
-    ltb 0 n && ((eqb (kind .rank) 0 && leb (o .stage) n) || (eqb (o .stage) n && leb (o .rank) (kind .rank)) || (kind .alone && ltb (o .stage) n))
-
 -- a choice among the three columns
 abbrev pub chosen : Order → Row → Option Spot
 chosen o kind =
@@ -129,10 +124,10 @@ chosen o kind =
     (cond (takes o kind (kind .third)) (some (spot (kind .third) (kind .rank))) none))
 
 module _ (o : Order) (kind : Row) (type : Bytes) (its : kind ≡ rowFor type) where
-  taken-chosen : taken (spot (o .stage) (o .rank)) type ≡ chosen o kind
+  taken-chosen : taken (spotOf o) type ≡ chosen o kind
   unfolding taken
   taken-chosen =
-      let f : Spot → Bool = mayTake type (spot (o .stage) (o .rank)) in
+      let f : Spot → Bool = mayTake type (spotOf o) in
       let s : spots type ≡ spotsOf kind = sym (stage-spots type) ∙ sym (ap spotsOf its) in
       let b : begins type ≡ kind .alone = sym (alone-begins type) ∙ sym (ap (λ (k : Row). k .alone) its) in
       rw (s, fit-column f (kind .first) (kind .rank) (column (kind .second) (kind .rank) (column (kind .third) (kind .rank) [])), fit-column f (kind .second) (kind .rank) (column (kind .third) (kind .rank) []), fit-column f (kind .third) (kind .rank) [], b)
@@ -161,4 +156,4 @@ nowhere-broken true at = refl
 nowhere-broken false at = refl
 
 pub broken-is : (o : Order) (ds : List Bytes) → standing o ≡ reached ds → o .broken ≡ is8 ds
-broken-is o ds e = sym (nowhere-broken (o .broken) (spot (o .stage) (o .rank))) ∙ ap nowhere e ∙ nowhere-is ds
+broken-is o ds e = sym (nowhere-broken (o .broken) (spotOf o)) ∙ ap nowhere e ∙ nowhere-is ds

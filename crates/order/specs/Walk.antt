@@ -1,11 +1,14 @@
 -- Internal: finding 8 as the code decides it, by a walk from spot to spot that takes for each record the first spot that fits. Since no
 -- type has two such spots, the walk gets nowhere just where the records are out of order (`nowhere-is` in proofs/Laws.antt).
-use mathlib.Core.Bool.{Bool, true, false, cond}
+use Prim.Native.Nat.{ℕ}
+use mathlib.Core.Bool.{Bool, true, false, cond, _&&_, _||_}
 use mathlib.Core.Option.{Option, none, some}
 use mathlib.Core.List.{List, [], _∷_}
+use lib.Dec.{ltb}
 use Rattle.format.specs.Bytes.{Bytes}
 use Rattle.format.specs.Stages.{Spot, spot, spots}
-use Rattle.rules.specs.Order.{mayTake, outset, countedTypes}
+use Rattle.rules.specs.Order.{leads, continues, mayTake, outset, countedTypes}
+use Rattle.kinds.specs.declared.Row.{Row}
 use Rattle.order.specs.declared.Order.{Order}
 
 abbrev pub firstFit : (Spot → Bool) → List Spot → Option Spot
@@ -32,6 +35,17 @@ nowhere (some at) = false
 unfoldable pub reached : List Bytes → Option Spot
 reached details = walk (some outset) (countedTypes details)
 
--- where an `Order` of the code stands
+-- ---- the code's `Order`
+
+abbrev pub spotOf : Order → Spot
+spotOf o = spot (o .stage) (o .rank)
+
+-- where it stands
 abbrev pub standing : Order → Option Spot
-standing o = cond (o .broken) none (some (spot (o .stage) (o .rank)))
+standing o = cond (o .broken) none (some (spotOf o))
+
+-- whether a record of the row may take, from there, its spot in that stage; stage 0 is none
+abbrev pub takes : Order → Row → ℕ → Bool
+takes o row stage =
+    ltb 0 stage
+    && (leads (spotOf o) (spot stage (row .rank)) || continues (spotOf o) (spot stage (row .rank)) || (row .alone && ltb (o .stage) stage))

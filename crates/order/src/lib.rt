@@ -1,9 +1,7 @@
 // The order of a transaction's details, finding 8: where a walk stands in the sequence of stages.
 use kinds::Row;
 ghost use mathlib.Core.Path.{_≡_};
-ghost use mathlib.Core.Bool.{_&&_, _||_};
 ghost use mathlib.Core.List.{List, [], _∷_, _++_};
-ghost use lib.Dec.{leb, ltb, eqb};
 ghost use lib.ListN.{take};
 ghost use Rattle.format.specs.Bytes.{Bytes};
 ghost use Rattle.format.specs.Table.{detail};
@@ -11,7 +9,7 @@ ghost use Rattle.format.specs.Cwr22.{cwr22};
 ghost use Rattle.format.specs.Checks.{cls};
 ghost use Rattle.rules.specs.Order.{is8};
 ghost use Rattle.kinds.specs.Rows.{rowFor};
-ghost use Rattle.order.specs.Walk.{reached, standing};
+ghost use Rattle.order.specs.Walk.{reached, standing, takes};
 
 // The stage and the rank in it that the last record took, and whether some record could take none.
 pub struct Order {
@@ -65,7 +63,7 @@ impl Order {
     // Whether a record of the row may take its spot in that stage; stage 0 is none. A leader may in its stage again and in a later one,
     // a bracketed type after its leader but not after a later bracket, and NPR and IND as the first of a later stage.
     fn takes(self, row: Row, stage: u8) -> bool
-        ensures { λ r. ⌜ r ≡ (ltb 0 stage && ((eqb (row .rank) 0 && leb (self .stage) stage) || (eqb (self .stage) stage && leb (self .rank) (row .rank)) || (row .alone && ltb (self .stage) stage))) ⌝ }
+        ensures { λ r. ⌜ r ≡ takes self row stage ⌝ }
     {
         (0 < stage)
             & (((row.rank == 0) & (self.stage <= stage))

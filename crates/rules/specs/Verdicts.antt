@@ -7,6 +7,7 @@ use Rattle.format.specs.Bytes.{Bytes}
 use Rattle.format.specs.Doc.{Group, Transaction}
 use Rattle.format.specs.Tree.{Tree}
 use Rattle.rules.specs.Tables.{Tables}
+use Rattle.rules.specs.Records.{any}
 use Rattle.rules.specs.Findings.{TR, GR, setOf, bytesOf, level, verdict, verdictOf, larger, worst}
 use Rattle.rules.specs.Works.{namedType, is0, transactionFindings}
 
@@ -14,10 +15,6 @@ use Rattle.rules.specs.Works.{namedType, is0, transactionFindings}
 abbrev pub joined : {A B : Type 0} → (A → List B) → List A → List B
 joined f [] = []
 joined f (x ∷ xs) = f x ++ joined f xs
-
-abbrev pub anyOf : {A : Type 0} → (A → Bool) → List A → Bool
-anyOf p [] = false
-anyOf p (x ∷ xs) = p x || anyOf p xs
 
 -- what a buffer has for sets of findings: eight bytes each, one after the other
 unfoldable pub findingBytes : List (List Bool) → Bytes
@@ -37,7 +34,7 @@ raised least verdicts = map (larger least) verdicts
 
 -- some header of the group has finding 0
 unfoldable pub isStray : Group → Bool
-isStray g = anyOf (λ (x : Transaction). is0 (namedType (g .opening)) (x .header)) (g .transactions)
+isStray g = any (λ (x : Transaction). is0 (namedType (g .opening)) (x .header)) (g .transactions)
 
 -- the tables and the tolerance
 module _ (tables : Tables) (t : ℕ) where
@@ -55,7 +52,7 @@ module _ (tables : Tables) (t : ℕ) where
   -- .. that of TR if any record of its transaction has a TR finding, ..
   unfoldable pub transactionVerdicts : Bytes → Transaction → List ℕ
   transactionVerdicts named x =
-      raised (cond (anyOf rejects (transactionFindings tables t named x)) (verdict TR) 0) (map worst (transactionFindings tables t named x))
+      raised (cond (any rejects (transactionFindings tables t named x)) (verdict TR) 0) (map worst (transactionFindings tables t named x))
 
   -- .. that of GR if any header in its group has finding 0
   unfoldable pub groupVerdicts : Group → List ℕ

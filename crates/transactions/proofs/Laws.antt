@@ -22,7 +22,8 @@ use Rattle.tally.specs.Known.{Known}
 use Rattle.tally.specs.declared.Tally.{Tally}
 use Rattle.edits.specs.Judged.{Judged}
 use Rattle.edits.specs.declared.Found.{Found}
-use Rattle.rules.proofs.Verdicts.{larger-zero, any-after}
+use Rattle.rules.proofs.Lists.{any-last}
+use Rattle.rules.proofs.Verdicts.{larger-zero}
 use Rattle.headers.proofs.Laws.{later-rejects}
 use Rattle.buffers.specs.Written.{Written}
 use Rattle.buffers.proofs.Entries.{kept-v, kept-f, then}
@@ -78,6 +79,6 @@ module _ (tables : Tables) (f : Bytes) (first : ℕ) (ds : List Bytes) (r : Byte
         };
         index = omega (arith, before .index, length-append ds (r ∷ []));
         known = k;
-        rejects = rw (last, any-after rejects sets own, own-rejects tables ds r, before .rejects, j .level);
+        rejects = rw (last, any-last rejects sets own, own-rejects tables ds r, before .rejects, j .level);
         written = rw (last, map-append worst sets (own ∷ []), ← j .level) both;
       }

@@ -15,7 +15,8 @@ use Rattle.format.specs.Tree.{span, after, isDetail}
 use Rattle.rules.specs.Tables.{Tables}
 use Rattle.rules.specs.Findings.{worst}
 use Rattle.rules.specs.Works.{is0, detailsFrom, transactionFindings}
-use Rattle.rules.specs.Verdicts.{anyOf, rejects, transactionVerdicts}
+use Rattle.rules.specs.Records.{any}
+use Rattle.rules.specs.Verdicts.{rejects, transactionVerdicts}
 use Rattle.structure.specs.Cursor.{Here}
 use Rattle.tally.specs.Known.{Known}
 use Rattle.headers.specs.Headed.{Linked}
@@ -41,7 +42,7 @@ pub record Gone (tables : Tables) (f : Bytes) (first : ℕ) (ds rs : List Bytes)
   pub room : Room (w .index) (length rs) (length v) (length g)
   pub index : w .index ≡ first + length ds
   pub known : Known (w .tally) ds
-  pub rejects : w .rejects ≡ anyOf rejects (detailsFrom tables [] ds)
+  pub rejects : w .rejects ≡ any rejects (detailsFrom tables [] ds)
   pub written : Written first (map worst (detailsFrom tables [] ds)) (detailsFrom tables [] ds) v₀ g₀ v g
 
 -- all details that stood there are done
