@@ -1,4 +1,4 @@
-// The calls below the finished library that the comparison with the independent program reaches.
+// For tests and bench alone: the calls below the finished library that they reach.
 ghost use mathlib.Core.Path.{_≡_};
 ghost use lib.ListN.{length};
 ghost use Rattle.format.specs.Cwr22.{cwr22};
