@@ -24,7 +24,7 @@ use Rattle.kinds.specs.declared.Row.{Row}
 use Rattle.format.proofs.Tests.{by-cases}
 use Rattle.kinds.proofs.Laws.{sort-is, of-sort}
 use Rattle.totals.specs.Sums.{AtMost}
-use Rattle.marks.specs.Marked.{isInstrument}
+use Rattle.tally.specs.Marked.{isInstrument}
 use Rattle.chains.proofs.Laws.{in-chain}
 use Rattle.edits.specs.declared.Found.{Found}
 use Rattle.edits.specs.Kinds.{Publisher as IsPublisher, Writer, Version, Performer, Recording}

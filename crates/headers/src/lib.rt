@@ -1,7 +1,7 @@
 // The findings on a transaction's header: 0 to 15, which hang on the whole transaction, joined with those on the header's own fields.
 use edits::Found;
-use marks::Marks;
 use tally::Tally;
+use tally::marks::Marks;
 ghost use mathlib.Core.Path.{_≡_};
 ghost use mathlib.Core.Bool.{Bool, false};
 ghost use mathlib.Core.List.{List, [], _∷_, _++_};
@@ -14,7 +14,7 @@ ghost use Rattle.rules.specs.Writers.{versionType, is4, is5, is6, is7, is10};
 ghost use Rattle.rules.specs.Works.{is0, is9, is15};
 ghost use Rattle.rules.specs.Findings.{setOf, worst};
 ghost use Rattle.totals.specs.Sums.{Below};
-ghost use Rattle.marks.specs.Marked.{Marked};
+ghost use Rattle.tally.specs.Marked.{Marked};
 ghost use Rattle.edits.specs.Kinds.{Header};
 ghost use Rattle.edits.specs.Judged.{Judged};
 ghost use Rattle.tally.specs.Known.{Known};

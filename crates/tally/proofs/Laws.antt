@@ -16,7 +16,7 @@ use Rattle.rules.specs.Writers.{creators, changers, authors}
 use Rattle.rules.proofs.Types.{of-two}
 use Rattle.totals.specs.Sums.{Below}
 use Rattle.totals.specs.declared.Totals.{Totals}
-use Rattle.marks.specs.Marked.{isInstrument}
+use Rattle.tally.specs.Marked.{isInstrument}
 use Rattle.edits.specs.Places.{placeOf}
 use Rattle.edits.specs.Before.{sequenceOf, lastSequence}
 use Rattle.edits.proofs.Places.{place-is}

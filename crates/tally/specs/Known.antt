@@ -11,7 +11,7 @@ use Rattle.kinds.specs.Rows.{rowFor}
 use Rattle.kinds.specs.declared.Row.{Row}
 use Rattle.totals.specs.Sums.{Sums, Below}
 use Rattle.order.specs.Walk.{reached, standing}
-use Rattle.marks.specs.Marked.{Marked}
+use Rattle.tally.specs.Marked.{Marked}
 use Rattle.edits.specs.Before.{lastSequence}
 use Rattle.tally.specs.declared.Tally.{Tally}
 

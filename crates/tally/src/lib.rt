@@ -15,10 +15,12 @@ ghost use Rattle.rules.specs.Records.{isType, isPublisher, isWriter};
 ghost use Rattle.rules.specs.Writer.{designationInForce};
 ghost use Rattle.rules.specs.Totals.{publisherShare, writerShare};
 ghost use Rattle.totals.specs.Sums.{rights, AtMost, Below};
-ghost use Rattle.marks.specs.Marked.{isInstrument, Marked};
+ghost use Rattle.tally.specs.Marked.{isInstrument, Marked};
 ghost use Rattle.edits.specs.Places.{placeOf};
 ghost use Rattle.edits.specs.Before.{sequenceOf};
 ghost use Rattle.tally.specs.Known.{Detail, Known};
+
+pub mod marks;
 
 pub struct Tally {
     pub totals: Totals,

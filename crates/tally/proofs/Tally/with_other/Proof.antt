@@ -1,6 +1,6 @@
 -- `tally::Tally::with_other` meets its contract. Assumes nothing.
 use borrow.Author.Needs.{needs}
-use Rattle.marks.proofs.Laws.{unmarked}
+use Rattle.tally.proofs.Marking.{unmarked}
 use Rattle.tally.proofs.Tally.with_other.Statement.{statement}
 use Rattle.tally.proofs.Tally.with_other.Tie as tie
 

@@ -4,7 +4,7 @@ use Prim.Native.Nat.{_*_}
 use lib.ListN.{length}
 use borrow.Author.Needs.{needs}
 use Rattle.rules.proofs.Types.{publisher-no-writer}
-use Rattle.marks.proofs.Laws.{unmarked}
+use Rattle.tally.proofs.Marking.{unmarked}
 use Rattle.tally.proofs.Laws.{publisher-unmarked, below-on, last-on}
 use Rattle.tally.proofs.Tally.with_publisher.Statement.{statement}
 use Rattle.tally.proofs.Tally.with_publisher.Tie as tie

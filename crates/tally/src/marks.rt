@@ -7,7 +7,7 @@ ghost use Rattle.format.specs.Bytes.{Bytes, among};
 ghost use Rattle.rules.specs.Records.{isType, isWriter};
 ghost use Rattle.rules.specs.Writer.{designationInForce};
 ghost use Rattle.rules.specs.Writers.{creators, changers, authors};
-ghost use Rattle.marks.specs.Marked.{Marked};
+ghost use Rattle.tally.specs.Marked.{Marked};
 
 pub struct Marks {
     // Whether there is a writer; one that makes a work, one that changes one, one that writes text.

@@ -1,7 +1,7 @@
--- `marks::Marks::with_writer` meets its contract. Assumes nothing.
-use Rattle.marks.proofs.Laws.{writer-on}
-use Rattle.marks.proofs.Marks.with_writer.Statement.{statement}
-use Rattle.marks.proofs.Marks.with_writer.Tie as tie
+-- `tally::marks::Marks::with_writer` meets its contract. Assumes nothing.
+use Rattle.tally.proofs.Marking.{writer-on}
+use Rattle.tally.proofs.marks.Marks.with_writer.Statement.{statement}
+use Rattle.tally.proofs.marks.Marks.with_writer.Tie as tie
 
 returns : tie.Need-returns
 returns c ds r h w cs gs us = writer-on (c .before .before .before .args .self) ds r h (c .before .before .before .args .creator) (c .before .before .before .args .changer) (c .before .before .before .args .author) w cs gs us

@@ -17,8 +17,8 @@ use Rattle.rules.specs.Works.{several}
 use Rattle.rules.proofs.Lists.{only-kept, only-left, any-last}
 use Rattle.rules.proofs.Types.{type-is, of-two}
 use Rattle.format.proofs.Tests.{by-cases}
-use Rattle.marks.specs.declared.Marks.{Marks}
-use Rattle.marks.specs.Marked.{isInstrument, Marked}
+use Rattle.tally.specs.declared.marks.Marks.{Marks}
+use Rattle.tally.specs.Marked.{isInstrument, Marked}
 
 -- ---- more than one of a type
 

@@ -6,7 +6,7 @@ use Rattle.format.specs.Bytes.{Bytes}
 use Rattle.rules.specs.Records.{isType, isWriter, any}
 use Rattle.rules.specs.Writers.{anyWriter, creators, changers, authors}
 use Rattle.rules.specs.Works.{several}
-use Rattle.marks.specs.declared.Marks.{Marks}
+use Rattle.tally.specs.declared.marks.Marks.{Marks}
 
 abbrev pub isInstrument : Bytes → Bool
 isInstrument r = isType "INS" r || isType "IND" r
