@@ -79,7 +79,11 @@ module _ {k : Class} {n b : ℕ} (kind : Control k n b) where
         let w : i + 0 ≡ i = omega arith in
         let z : 0 < 3 = omega arith in
         let y : 0 < n = omega arith in
-        let a : getD r 0 0 ≡ getD f i 0 = ap (λ q. getD q 0 0) (sym (lent (i + n) refl)) ∙ getD-take (i + n - i) (drop i f) 0 0 (omega arith) ∙ getD-drop i f 0 0 ∙ ap (λ q. getD f q 0) w in
+        let a : getD r 0 0 ≡ getD f i 0 =
+        ap (λ q. getD q 0 0) (sym (lent (i + n) refl))
+        ∙ getD-take (i + n - i) (drop i f) 0 0 (omega arith)
+        ∙ getD-drop i f 0 0
+        ∙ ap (λ q. getD f q 0) w in
         sym a ∙ sym (getD-take 3 r 0 0 z) ∙ is-alike r its .1
 
 -- ---- what follows

@@ -22,11 +22,11 @@ use Rattle.buffers.specs.Written.{Written}
 use Rattle.buffers.proofs.Entries.{then}
 use Rattle.transactions.proofs.Laws.{some-record}
 use Rattle.transactions.specs.Walk.{restAt, tailOf, Room}
-use Rattle.files.specs.Levels.{Judged}
+use Rattle.files.specs.Levels.{Judged, WrittenFile}
 use Rattle.files.proofs.Controls.{header, next, follows}
 use Rattle.files.proofs.Levels.{room-left}
 
-module _ (f : Bytes) (h : Here f 0 unknown (restAt f 0)) where
+module _ {f : Bytes} (h : Here f 0 unknown (restAt f 0)) where
   left : restAt f 0 ≡ firstOf (restAt f 0) ∷ tailOf (restAt f 0)
   left = some-record unknown refl (restAt f 0) (h .placed)
 
@@ -45,11 +45,15 @@ module _ (f : Bytes) (h : Here f 0 unknown (restAt f 0)) where
   counted : length (restAt f 0) ≡ suc (length (restAt f 169))
   counted = ap length left ∙ ap (λ l. suc (length l)) (sym rest-is)
 
-  pub header-room : (v g : ℕ) → Room 0 (length (restAt f 0)) v g → (0 < v) × (8 * (0 + 1) ≤ g)
-  header-room v g m = (omega (arith, m .inV, counted), omega (arith, m .inF, counted))
+  pub header-room : {v g : ℕ} → Room 0 (length (restAt f 0)) v g → (0 < v) × (8 * (0 + 1) ≤ g)
+  header-room m = (omega (arith, m .inV, counted), omega (arith, m .inF, counted))
 
-  pub groups-room : (v g : ℕ) → Room 0 (length (restAt f 0)) v g → Room 1 (length (restAt f 169)) v g
-  groups-room v g m = record { few = omega (arith, m .few, counted); inV = omega (arith, m .inV, counted); inF = omega (arith, m .inF, counted) }
+  pub groups-room : {v g : ℕ} → Room 0 (length (restAt f 0)) v g → Room 1 (length (restAt f 169)) v g
+  groups-room m = record {
+    few = omega (arith, m .few, counted);
+    inV = omega (arith, m .inV, counted);
+    inF = omega (arith, m .inF, counted);
+  }
 
   same-groups : groupsIn cwr22 (restAt f 0) ≡ groupsIn cwr22 (restAt f 169)
   same-groups =
@@ -79,8 +83,9 @@ module _ (f : Bytes) (h : Here f 0 unknown (restAt f 0)) where
           let w = room-left (length (restAt f 169)) judged refl m in
           (omega (arith, w .inV, one), omega (arith, w .inF, one))
 
-      pub file-done : {v₀ g₀ v₃ g₃ : Bytes} → Written 0 (0 ∷ []) ([] ∷ []) v₀ g₀ v₁ g₁ → Written n (0 ∷ []) ([] ∷ []) v₂ g₂ v₃ g₃
-          → Written 0 (fileVerdicts tables t (content f)) (fileFindings tables t (content f)) v₀ g₀ v₃ g₃
+      pub file-done : {v₀ g₀ v₃ g₃ : Bytes} → Written 0 (0 ∷ []) ([] ∷ []) v₀ g₀ v₁ g₁
+          → Written n (0 ∷ []) ([] ∷ []) v₂ g₂ v₃ g₃
+          → WrittenFile tables t f v₀ g₀ v₃ g₃
       file-done {v₀} {g₀} {v₃} {g₃} w₁ w₃ =
           let i : n ≡ 0 + length ([] ∷ sets) = omega (arith, judged .index) in
           let w₂ : Written 0 (0 ∷ vs) ([] ∷ sets) v₀ g₀ v₂ g₂ = then w₁ (judged .written) in

@@ -27,9 +27,10 @@ use Rattle.buffers.specs.Written.{Written}
 use Rattle.buffers.proofs.Entries.{kept-v, kept-f, then}
 use Rattle.buffers.proofs.Raised.{raised-over}
 use Rattle.transactions.proofs.Laws.{some-record}
+use Rattle.transactions.specs.declared.Passed.{Passed}
 use Rattle.transactions.specs.Walk.{restAt, tailOf, Room}
 use Rattle.files.specs.declared.Next.{Next}
-use Rattle.files.specs.Levels.{transactionsOf, groupOf, afterGroup, isStrayAmong, Judged}
+use Rattle.files.specs.Levels.{transactionsOf, groupOf, afterGroup, isStrayAmong, Judged, JudgedTransactions, JudgedGroup, JudgedGroups}
 use Rattle.files.proofs.Controls.{opening, closing, trailer, ends, lent, next, letter, follows, trl-after, as-closed, last-record}
 use Rattle.files.proofs.Levels.{Going, room-left, going-none, going-room, going-on, going-end}
 
@@ -40,7 +41,7 @@ closing-skipped : (rs : List Bytes) → cls cwr22 (firstOf rs) ≡ grt → group
 closing-skipped [] e = refl
 closing-skipped (r ∷ rs) e = groups-skip cwr22 r rs (rw e refl)
 
-module _ (f : Bytes) (at : ℕ) (h : Here f at grt (restAt f at)) (is-grh : cls cwr22 (firstOf (restAt f at)) ≡ grh) where
+module _ {f : Bytes} {at : ℕ} (h : Here f at grt (restAt f at)) (is-grh : cls cwr22 (firstOf (restAt f at)) ≡ grh) where
   left : restAt f at ≡ firstOf (restAt f at) ∷ tailOf (restAt f at)
   left = some-record grt refl (restAt f at) (h .placed)
 
@@ -59,11 +60,11 @@ module _ (f : Bytes) (at : ℕ) (h : Here f at grt (restAt f at)) (is-grh : cls 
   pub inside-here : (e : ℕ) → e ≡ at + 28 + 2 → Here f e grh (restAt f e)
   inside-here e q = rw (after-opening e q) (next opening here is-grh e q)
 
-  pub opening-room : (n v g : ℕ) → Room n (length (restAt f at)) v g → (n < v) × (8 * (n + 1) ≤ g)
-  opening-room n v g m = (omega (arith, m .inV, ap length left), omega (arith, m .inF, ap length left))
+  pub opening-room : {n v g : ℕ} → Room n (length (restAt f at)) v g → (n < v) × (8 * (n + 1) ≤ g)
+  opening-room m = (omega (arith, m .inV, ap length left), omega (arith, m .inF, ap length left))
 
-  pub inside-room : (n v g e : ℕ) → e ≡ at + 28 + 2 → Room n (length (restAt f at)) v g → Room (n + 1) (length (restAt f e)) v g
-  inside-room n v g e q m =
+  pub inside-room : {n v g : ℕ} (e : ℕ) → e ≡ at + 28 + 2 → Room n (length (restAt f at)) v g → Room (n + 1) (length (restAt f e)) v g
+  inside-room e q m =
       let l : length (restAt f at) ≡ suc (length (restAt f e)) = ap length left ∙ ap (λ k. suc (length k)) (sym (after-opening e q)) in
       record { few = omega (arith, m .few); inV = omega (arith, m .inV); inF = omega (arith, m .inF) }
 
@@ -99,55 +100,52 @@ module _ {f : Bytes} {m i : ℕ} {vs : List ℕ} {sets : List (List Bool)} {at n
   closing-left = omega (arith, judged .left, ap length last)
 
 -- all its records are written, and raised
-module _ (tables : Tables) (t : ℕ) (f named : Bytes) (at index inside : ℕ) (h : Here f at grt (restAt f at)) (is-grh : cls cwr22 (firstOf (restAt f at)) ≡ grh) where
-  abbrev g : Group
-  g = groupOf (restAt f at)
-
-  abbrev xs : List Transaction
-  xs = transactionsOf (tailOf (restAt f at))
-
-  pub group-done : (p-at p-index least : ℕ) (stray : Bool) (v₀ g₀ v₁ g₁ v₂ g₂ v₃ g₃ ys : Bytes) → inside ≡ at + 28 + 2
+module _ (tables : Tables) (t : ℕ) {f named : Bytes} {at index inside : ℕ}
+    (h : Here f at grt (restAt f at)) (is-grh : cls cwr22 (firstOf (restAt f at)) ≡ grh) (p : Passed) where
+  pub group-done : {least : ℕ} {v₀ g₀ v₁ g₁ v₂ g₂ v₃ g₃ ys : Bytes} → inside ≡ at + 28 + 2
       → named ≡ namedType (firstOf (restAt f at))
       → Written index (0 ∷ []) ([] ∷ []) v₀ g₀ v₁ g₁
-      → Judged f (index + 1 + length (restAt f inside)) (index + 1) (joined (transactionVerdicts tables t named) (transactionsOf (restAt f inside)))
-      (joined (transactionFindings tables t named) (transactionsOf (restAt f inside))) p-at p-index head (after (isInside cwr22) (restAt f inside)) v₁ g₁ v₂ g₂
-      → stray ≡ isStrayAmong named (transactionsOf (restAt f inside)) → cls cwr22 (firstOf (after (isInside cwr22) (restAt f inside))) ≡ grt
-      → Written p-index (0 ∷ []) ([] ∷ []) v₂ g₂ v₃ g₃
-      → least ≡ cond stray 4 0 → ys ≡ raised least (take (p-index + 1 - index) (drop index v₃))
-      → Judged f (index + length (restAt f at)) index (groupVerdicts tables t g) (groupFindings tables t g) (p-at + 37 + 2) (p-index + 1) grt (afterGroup (restAt f at)) v₀ g₀ (putMid index (p-index + 1 - index) v₃ ys) g₃
+      → JudgedTransactions tables t named f inside (index + 1) p v₁ g₁ v₂ g₂
+      → p .stray ≡ isStrayAmong named (transactionsOf (restAt f inside)) → cls cwr22 (firstOf (after (isInside cwr22) (restAt f inside))) ≡ grt
+      → Written (p .index) (0 ∷ []) ([] ∷ []) v₂ g₂ v₃ g₃
+      → least ≡ cond (p .stray) 4 0 → ys ≡ raised least (take (p .index + 1 - index) (drop index v₃))
+      → JudgedGroup tables t f at index (record { at = p .at + 37 + 2; index = p .index + 1 })
+      v₀ g₀ (putMid index (p .index + 1 - index) v₃ ys) g₃
   unfolding groupVerdicts groupFindings isStray
-  group-done p-at p-index least stray v₀ g₀ v₁ g₁ v₂ g₂ v₃ g₃ ys q nm w₁ j st cl w₃ ls y =
-      let b = after-opening f at h is-grh inside q in
+  group-done {least} {v₀} {g₀} {v₁} {g₁} {v₂} {g₂} {v₃} {g₃} {ys} q nm w₁ j st cl w₃ ls y =
+      let b = after-opening h is-grh inside q in
+      let rs = tailOf (restAt f at) in
+      let xs : List Transaction = transactionsOf rs in
       let ss : List (List Bool) = joined (transactionFindings tables t named) xs in
       let vs : List ℕ = joined (transactionVerdicts tables t named) xs in
-      let j' : Judged f (index + 1 + length (tailOf (restAt f at))) (index + 1) vs ss p-at p-index head (after (isInside cwr22) (tailOf (restAt f at))) v₁ g₁ v₂ g₂ = rw b at j in
-      let cl' : cls cwr22 (firstOf (after (isInside cwr22) (tailOf (restAt f at)))) ≡ grt = rw b at cl in
-      let st' : stray ≡ isStrayAmong named xs = rw b at st in
-      let n : p-index ≡ index + length ([] ∷ ss) = omega (arith, j' .index) in
+      let j' : Judged f (index + 1 + length rs) (index + 1) vs ss (p .at) (p .index) head (after (isInside cwr22) rs) v₁ g₁ v₂ g₂ = rw b at j in
+      let cl' : cls cwr22 (firstOf (after (isInside cwr22) rs)) ≡ grt = rw b at cl in
+      let st' : p .stray ≡ isStrayAmong named xs = rw b at st in
+      let n : p .index ≡ index + length ([] ∷ ss) = omega (arith, j' .index) in
       let w₂ : Written index (0 ∷ vs) ([] ∷ ss) v₀ g₀ v₂ g₂ = then w₁ (j' .written) in
       let w₄ : Written index ((0 ∷ vs) ++ 0 ∷ []) (([] ∷ ss) ++ [] ∷ []) v₀ g₀ v₃ g₃ = then w₂ (rw n at w₃) in
-      let l : p-index + 1 ≡ index + length (([] ∷ ss) ++ [] ∷ []) = rw (length-append ([] ∷ ss) ([] ∷ [])) (omega (arith, n)) in
-      let w₅ = raised-over least (p-index + 1) ys w₄ l y in
+      let l : p .index + 1 ≡ index + length (([] ∷ ss) ++ [] ∷ []) = rw (length-append ([] ∷ ss) ([] ∷ [])) (omega (arith, n)) in
+      let w₅ = raised-over least (p .index + 1) ys w₄ l y in
       record {
         here = after-closing j' cl';
-        left = closing-left j' cl' ∙ omega (arith, ap length (left f at h is-grh));
+        left = closing-left j' cl' ∙ omega (arith, ap length (left h is-grh));
         index = rw nm at l;
         written = rw (ls, st', nm) at w₅;
       }
 
 -- ---- the loop
 
-module _ (tables : Tables) (t : ℕ) (f : Bytes) (start i : ℕ) (v₀ g₀ : Bytes) where
-  -- the groups gs are done
-  abbrev pub Inv : Next → Bytes → Bytes → Type 0
-  Inv n v g =
-      (gs : List Group) × Going (groupsIn cwr22) (groupVerdicts tables t) (groupFindings tables t) f start i v₀ g₀ (n .at) (n .index) grt v g gs
+-- the groups gs are done
+abbrev pub Inv : (tables : Tables) (t : ℕ) (f : Bytes) (start i : ℕ) (v₀ g₀ : Bytes) (n : Next) (v g : Bytes) → Type 0
+Inv tables t f start i v₀ g₀ n v g =
+    (gs : List Group) × Going (groupsIn cwr22) (groupVerdicts tables t) (groupFindings tables t) f start i v₀ g₀ (n .at) (n .index) grt v g gs
 
+module _ (tables : Tables) (t : ℕ) {f : Bytes} {start i : ℕ} {v₀ g₀ : Bytes} where
   pub over-none : Here f start hdr (restAt f start) → Room i (length (restAt f start)) (length v₀) (length g₀)
-      → Inv (record { at = start; index = i }) v₀ g₀
+      → Inv tables t f start i v₀ g₀ (record { at = start; index = i }) v₀ g₀
   over-none h m = ([], going-none (groupsIn cwr22) (groupVerdicts tables t) (groupFindings tables t) f start i v₀ g₀ (as-closed h) m)
 
-  module _ {n : Next} {v g : Bytes} (inv : Inv n v g) where
+  module _ {n : Next} {v g : Bytes} (inv : Inv tables t f start i v₀ g₀ n v g) where
     pub over-here : Here f (n .at) grt (restAt f (n .at))
     over-here = inv .1 .judged .here
 
@@ -182,13 +180,14 @@ module _ (tables : Tables) (t : ℕ) (f : Bytes) (start i : ℕ) (v₀ g₀ : By
     no-group : eqb (getD f (n .at) 0) 71 ≡ false → isGRH cwr22 (firstOf (restAt f (n .at))) ≡ false
     no-group e =
         by-cases (isGRH cwr22 (firstOf (restAt f (n .at))))
-        (λ q. absurd (false≢true (sym e ∙ ap (λ b. eqb b 71) (letter opening stands (sym (is→eq grh _ (is-T (isGRH cwr22 (firstOf (restAt f (n .at)))) q))) (omega arith)))))
+        (λ q. let is-grh = sym (is→eq grh _ (is-T (isGRH cwr22 (firstOf (restAt f (n .at)))) q)) in
+        absurd (false≢true (sym e ∙ ap (λ b. eqb b 71) (letter opening stands is-grh (omega arith)))))
         (λ q. q)
 
     -- one group more
-    module _ (o : Next) (v' g' : Bytes)
-        (done : Judged f (n .index + length (restAt f (n .at))) (n .index) (groupVerdicts tables t (groupOf (restAt f (n .at)))) (groupFindings tables t (groupOf (restAt f (n .at)))) (o .at) (o .index) grt (afterGroup (restAt f (n .at))) v g v' g') where
-      pub over-on : groupsIn cwr22 (restAt f (n .at)) ≡ groupOf (restAt f (n .at)) ∷ groupsIn cwr22 (afterGroup (restAt f (n .at))) → Inv o v' g'
+    module _ (o : Next) {v' g' : Bytes} (done : JudgedGroup tables t f (n .at) (n .index) o v g v' g') where
+      pub over-on : groupsIn cwr22 (restAt f (n .at)) ≡ groupOf (restAt f (n .at)) ∷ groupsIn cwr22 (afterGroup (restAt f (n .at)))
+          → Inv tables t f start i v₀ g₀ o v' g'
       over-on e = (
         inv .0 ++ groupOf (restAt f (n .at)) ∷ [],
         going-on (groupsIn cwr22) (groupVerdicts tables t) (groupFindings tables t) f start i v₀ g₀ (inv .1) (groupOf (restAt f (n .at))) e done,
@@ -206,10 +205,12 @@ module _ (tables : Tables) (t : ℕ) (f : Bytes) (start i : ℕ) (v₀ g₀ : By
       alone : tailOf (restAt f (n .at)) ≡ []
       alone = last-record (tailOf (restAt f (n .at))) (next trailer stands is-trl (n .at + 24 + 2) refl .placed)
 
-      pub over-end : Judged f (i + length (restAt f start)) i (joined (groupVerdicts tables t) (groupsIn cwr22 (restAt f start))) (joined (groupFindings tables t) (groupsIn cwr22 (restAt f start))) (n .at) (n .index) grt (restAt f (n .at)) v₀ g₀ v g
+      pub over-end : JudgedGroups tables t f start i n v₀ g₀ v g
       over-end =
           going-end (groupsIn cwr22) (groupVerdicts tables t) (groupFindings tables t) f start i v₀ g₀ (inv .1)
-          (ap (groupsIn cwr22) some-left ∙ groups-skip cwr22 (firstOf (restAt f (n .at))) (tailOf (restAt f (n .at))) (no-group e) ∙ ap (groupsIn cwr22) alone)
+          (ap (groupsIn cwr22) some-left
+          ∙ groups-skip cwr22 (firstOf (restAt f (n .at))) (tailOf (restAt f (n .at))) (no-group e)
+          ∙ ap (groupsIn cwr22) alone)
 
       pub one-left : length (restAt f (n .at)) ≡ 1
       one-left = ap length some-left ∙ ap (λ l. suc (length l)) alone

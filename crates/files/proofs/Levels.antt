@@ -44,8 +44,9 @@ room-kept w m = record {
 }
 
 -- room for what is left
-pub room-left : {f : Bytes} {m i : ℕ} {vs : List ℕ} {sets : List (List Bool)} {at n : ℕ} {c : Class} {rs : List Bytes} {v₀ g₀ v g : Bytes} (k : ℕ)
-    → Judged f m i vs sets at n c rs v₀ g₀ v g → m ≡ i + k → Room i k (length v₀) (length g₀) → Room n (length rs) (length v) (length g)
+pub room-left : {f : Bytes} {m i : ℕ} {vs : List ℕ} {sets : List (List Bool)} {at n : ℕ} {c : Class} {rs : List Bytes}
+    → {v₀ g₀ v g : Bytes} (k : ℕ) → Judged f m i vs sets at n c rs v₀ g₀ v g → m ≡ i + k
+    → Room i k (length v₀) (length g₀) → Room n (length rs) (length v) (length g)
 room-left k j e m = record {
   few = omega (arith, j .left, m .few);
   inV = omega (arith, j .left, m .inV, kept-v (j .written));
@@ -53,7 +54,8 @@ room-left k j e m = record {
 }
 
 -- parts of records, each with its verdicts and sets
-module _ {A : Type 0} (parts : List Bytes → List A) (verdictsOf : A → List ℕ) (setsOf : A → List (List Bool)) (f : Bytes) (start i : ℕ) (v₀ g₀ : Bytes) where
+module _ {A : Type 0} (parts : List Bytes → List A) (verdictsOf : A → List ℕ) (setsOf : A → List (List Bool))
+    (f : Bytes) (start i : ℕ) (v₀ g₀ : Bytes) where
   -- the parts xs are done
   pub record Going (at n : ℕ) (c : Class) (v g : Bytes) (xs : List A) : Type 0 where
     pub judged : Judged f (i + length (restAt f start)) i (joined verdictsOf xs) (joined setsOf xs) at n c (restAt f at) v₀ g₀ v g
@@ -75,8 +77,10 @@ module _ {A : Type 0} (parts : List Bytes → List A) (verdictsOf : A → List �
         → Judged f (n + length (restAt f at)) n (verdictsOf x) (setsOf x) at' n' c' rs' v g v' g' → Going at' n' c' v' g' (xs ++ x ∷ [])
     going-on {at'} x e j =
         let q = j .here .left in
-        let sets : joined setsOf (xs ++ x ∷ []) ≡ joined setsOf xs ++ setsOf x = joined-append setsOf xs (x ∷ []) ∙ ap (λ l. joined setsOf xs ++ l) (joined-one setsOf x) in
-        let verdicts : joined verdictsOf (xs ++ x ∷ []) ≡ joined verdictsOf xs ++ verdictsOf x = joined-append verdictsOf xs (x ∷ []) ∙ ap (λ l. joined verdictsOf xs ++ l) (joined-one verdictsOf x) in
+        let sets : joined setsOf (xs ++ x ∷ []) ≡ joined setsOf xs ++ setsOf x =
+        joined-append setsOf xs (x ∷ []) ∙ ap (λ l. joined setsOf xs ++ l) (joined-one setsOf x) in
+        let verdicts : joined verdictsOf (xs ++ x ∷ []) ≡ joined verdictsOf xs ++ verdictsOf x =
+        joined-append verdictsOf xs (x ∷ []) ∙ ap (λ l. joined verdictsOf xs ++ l) (joined-one verdictsOf x) in
         record {
           judged = record {
             here = rw q (j .here);
@@ -89,7 +93,8 @@ module _ {A : Type 0} (parts : List Bytes → List A) (verdictsOf : A → List �
 
     -- none is left
     pub going-end : parts (restAt f at) ≡ []
-        → Judged f (i + length (restAt f start)) i (joined verdictsOf (parts (restAt f start))) (joined setsOf (parts (restAt f start))) at n c (restAt f at) v₀ g₀ v g
+        → Judged f (i + length (restAt f start)) i (joined verdictsOf (parts (restAt f start))) (joined setsOf (parts (restAt f start)))
+        at n c (restAt f at) v₀ g₀ v g
     going-end e =
         let all : parts (restAt f start) ≡ xs = gone .split ∙ ap (λ l. xs ++ l) e ∙ append-nil xs in
         rw all (gone .judged)

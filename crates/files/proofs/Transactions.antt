@@ -25,7 +25,7 @@ use Rattle.transactions.specs.declared.Passed.{Passed}
 use Rattle.transactions.specs.Walk.{restAt, tailOf, frontOf, Room, Transacted}
 use Rattle.rules.proofs.Lists.{any-last}
 use Rattle.transactions.proofs.Laws.{length-details, some-record}
-use Rattle.files.specs.Levels.{transactionsOf, isStrayAmong, Judged}
+use Rattle.files.specs.Levels.{transactionsOf, isStrayAmong, Judged, JudgedTransactions}
 use Rattle.files.proofs.Controls.{follows, head-after, grt-after, as-head}
 use Rattle.files.proofs.Levels.{Going, going-none, going-room, going-on, going-end}
 
@@ -59,7 +59,8 @@ place-head (suc (suc (suc (suc (suc (suc n)))))) e = absurd (false≢true (ap (i
 module _ (tables : Tables) (t : ℕ) (named f : Bytes) (start i : ℕ) (v₀ g₀ : Bytes) where
   -- the transactions xs are done
   pub record Among (p : Passed) (v g : Bytes) (xs : List Transaction) : Type 0 where
-    pub going : Going transactionsOf (transactionVerdicts tables t named) (transactionFindings tables t named) f start i v₀ g₀ (p .at) (p .index) head v g xs
+    pub going : Going transactionsOf (transactionVerdicts tables t named) (transactionFindings tables t named) f start i v₀ g₀
+        (p .at) (p .index) head v g xs
     pub rest : after (isInside cwr22) (restAt f start) ≡ after (isInside cwr22) (restAt f (p .at))
     pub place : classAt (p .place) ≡ cls cwr22 (firstOf (restAt f (p .at)))
     pub edge : isDetail cwr22 (firstOf (restAt f (p .at))) ≡ false
@@ -68,8 +69,9 @@ module _ (tables : Tables) (t : ℕ) (named f : Bytes) (start i : ℕ) (v₀ g�
   abbrev pub Inv : Passed → Bytes → Bytes → Type 0
   Inv p v g = (xs : List Transaction) × Among p v g xs
 
+module _ (tables : Tables) (t : ℕ) (named : Bytes) {f : Bytes} {start i : ℕ} {v₀ g₀ : Bytes} where
   pub among-none : Here f start grh (restAt f start) → Room i (length (restAt f start)) (length v₀) (length g₀)
-      → Inv (record { at = start; index = i; place = 2; stray = false }) v₀ g₀
+      → Inv tables t named f start i v₀ g₀ (record { at = start; index = i; place = 2; stray = false }) v₀ g₀
   among-none h m =
       let k : cls cwr22 (firstOf (restAt f start)) ≡ head = head-after _ (follows grh refl (restAt f start) (h .placed)) in (
         [],
@@ -82,11 +84,11 @@ module _ (tables : Tables) (t : ℕ) (named f : Bytes) (start i : ℕ) (v₀ g�
         },
       )
 
-  module _ {p : Passed} {v g : Bytes} (inv : Inv p v g) where
+  module _ {p : Passed} {v g : Bytes} (inv : Inv tables t named f start i v₀ g₀ p v g) where
     xs : List Transaction
     xs = inv .0
 
-    among : Among p v g xs
+    among : Among tables t named f start i v₀ g₀ p v g xs
     unfolding xs
     among = inv .1
 
@@ -113,7 +115,8 @@ module _ (tables : Tables) (t : ℕ) (named f : Bytes) (start i : ℕ) (v₀ g�
     header-here e = sym (among .place) ∙ ap classAt e
 
     -- one transaction more
-    module _ (q : Passed) (v' g' : Bytes) (e : p .place ≡ 2) (done : Transacted tables t named f (p .index) (restAt f (p .at)) q v g v' g') where
+    module _ (q : Passed) {v' g' : Bytes} (e : p .place ≡ 2)
+        (done : Transacted tables t named f (p .index) (restAt f (p .at)) q v g v' g') where
       abbrev left-over : List Bytes
       left-over = after (isDetail cwr22) (tailOf (restAt f (p .at)))
 
@@ -121,7 +124,10 @@ module _ (tables : Tables) (t : ℕ) (named f : Bytes) (start i : ℕ) (v₀ g�
       unfolding rs
       counted = ap length left ∙ ap suc (sym (length-parted (isDetail cwr22) (tailOf (restAt f (p .at)))))
 
-      one : Judged f (p .index + length (restAt f (p .at))) (p .index) (transactionVerdicts tables t named (frontOf (restAt f (p .at)))) (transactionFindings tables t named (frontOf (restAt f (p .at)))) (q .at) (q .index) head left-over v g v' g'
+      one : Judged f (p .index + length (restAt f (p .at))) (p .index)
+          (transactionVerdicts tables t named (frontOf (restAt f (p .at))))
+          (transactionFindings tables t named (frontOf (restAt f (p .at))))
+          (q .at) (q .index) head left-over v g v' g'
       unfolding rs transactionFindings
       one = record {
         here = done .here;
@@ -137,7 +143,9 @@ module _ (tables : Tables) (t : ℕ) (named f : Bytes) (start i : ℕ) (v₀ g�
       is-head : isHead cwr22 (firstOf (restAt f (p .at))) ≡ true
       is-head = rw (header-here e) refl
 
-      pub among-on : Inv (record { at = q .at; index = q .index; place = q .place; stray = p .stray || q .stray }) v' g'
+      pub among-on : Inv tables t named f start i v₀ g₀
+          (record { at = q .at; index = q .index; place = q .place; stray = p .stray || q .stray })
+          v' g'
       unfolding rs
       among-on = (
         xs ++ frontOf (restAt f (p .at)) ∷ [],
@@ -147,7 +155,11 @@ module _ (tables : Tables) (t : ℕ) (named f : Bytes) (start i : ℕ) (v₀ g�
               (frontOf (restAt f (p .at)))
               (ap transactionsOf left ∙ transaction-first cwr22 (firstOf (restAt f (p .at))) (tailOf (restAt f (p .at))) is-head)
               one;
-          rest = among .rest ∙ ap (after (isInside cwr22)) left ∙ rw is-head (inside-after cwr22 (tailOf (restAt f (p .at)))) ∙ ap (after (isInside cwr22)) (sym (done .here .left));
+          rest =
+              among .rest
+              ∙ ap (after (isInside cwr22)) left
+              ∙ rw is-head (inside-after cwr22 (tailOf (restAt f (p .at))))
+              ∙ ap (after (isInside cwr22)) (sym (done .here .left));
           place = done .place ∙ ap (λ l. cls cwr22 (firstOf l)) (sym (done .here .left));
           edge = ap (λ l. isDetail cwr22 (firstOf l)) (done .here .left) ∙ edge-of (tailOf (restAt f (p .at)));
           stray =
@@ -160,7 +172,10 @@ module _ (tables : Tables) (t : ℕ) (named f : Bytes) (start i : ℕ) (v₀ g�
     -- none is left
     module _ (e : p .place ≡ 2 → ⊥) where
       no-head : isHead cwr22 (firstOf (restAt f (p .at))) ≡ false
-      no-head = by-cases (isHead cwr22 (firstOf (restAt f (p .at)))) (λ q. absurd (e (place-head (p .place) (among .place ∙ sym (is→eq head _ (is-T (isHead cwr22 (firstOf (restAt f (p .at)))) q)))))) (λ q. q)
+      no-head =
+          by-cases (isHead cwr22 (firstOf (restAt f (p .at))))
+          (λ q. absurd (e (place-head (p .place) (among .place ∙ sym (is→eq head _ (is-T (isHead cwr22 (firstOf (restAt f (p .at)))) q))))))
+          (λ q. q)
 
       outside : isInside cwr22 (firstOf (restAt f (p .at))) ≡ false
       outside = rw (no-head, among .edge) refl
@@ -173,8 +188,11 @@ module _ (tables : Tables) (t : ℕ) (named f : Bytes) (start i : ℕ) (v₀ g�
       unfolding rs
       none-left = ap transactionsOf left ∙ transactions-none cwr22 (firstOf (restAt f (p .at))) (tailOf (restAt f (p .at))) outside
 
-      pub among-end : Judged f (i + length (restAt f start)) i (joined (transactionVerdicts tables t named) (transactionsOf (restAt f start))) (joined (transactionFindings tables t named) (transactionsOf (restAt f start))) (p .at) (p .index) head (after (isInside cwr22) (restAt f start)) v₀ g₀ v g
-      among-end = rw after-all (going-end transactionsOf (transactionVerdicts tables t named) (transactionFindings tables t named) f start i v₀ g₀ (among .going) none-left)
+      pub among-end : JudgedTransactions tables t named f start i p v₀ g₀ v g
+      among-end =
+          rw after-all
+          (going-end transactionsOf (transactionVerdicts tables t named) (transactionFindings tables t named) f start i v₀ g₀ (among .going)
+          none-left)
 
       pub among-stray : p .stray ≡ isStrayAmong named (transactionsOf (restAt f start))
       among-stray = among .stray ∙ ap (isStrayAmong named) (sym (among .going .split ∙ ap (λ l. xs ++ l) none-left ∙ append-nil xs))

@@ -7,24 +7,19 @@ use transactions::Passed;
 ghost use mathlib.Core.Path.{_≡_};
 ghost use mathlib.Core.Bool.{cond};
 ghost use mathlib.Core.List.{_∷_};
-ghost use Prim.Native.Nat.{_+_, _≤_, _<_};
+ghost use Prim.Native.Nat.{_≤_, _<_};
 ghost use lib.Dec.{eqb};
 ghost use lib.ListN.{length, getD};
-ghost use Rattle.format.specs.Table.{hdr, grh, head, grt, unknown};
+ghost use Rattle.format.specs.Table.{hdr, grh, grt, unknown};
 ghost use Rattle.format.specs.Cwr22.{cwr22};
 ghost use Rattle.format.specs.Checks.{cls};
 ghost use Rattle.format.specs.Structure.{mostBytes, firstOf};
 ghost use Rattle.format.specs.Tree.{after, isInside, groupsIn};
-ghost use Rattle.rules.specs.Values.{largestTolerance};
-ghost use Rattle.rules.specs.Works.{transactionFindings};
-ghost use Rattle.rules.specs.Verdicts.{joined, groupFindings, fileFindings, transactionVerdicts, groupVerdicts, fileVerdicts};
-ghost use Rattle.rules.specs.Outcome.{content};
-ghost use Rattle.tables.specs.Index.{Indexed};
 ghost use Rattle.structure.specs.Cursor.{Here};
-ghost use Rattle.buffers.specs.Written.{Written};
-ghost use Rattle.transactions.specs.Walk.{restAt, Room};
+ghost use Rattle.transactions.specs.Walk.{restAt, Prepared, Room};
 ghost use Rattle.rules.specs.Tables.{tablesOf};
-ghost use Rattle.files.specs.Levels.{transactionsOf, groupOf, afterGroup, isStrayAmong, Judged};
+ghost use Rattle.files.specs.Levels.{transactionsOf, groupOf, afterGroup, isStrayAmong};
+ghost use Rattle.files.specs.Levels.{JudgedTransactions, JudgedGroup, JudgedGroups, WrittenFile};
 
 // How long the records are that open and close a file and its groups.
 const HDR_LENGTH: usize = 167;
@@ -64,10 +59,15 @@ fn judge_transactions(
     verdicts: &mut [u8],
     findings: &mut [u8],
 ) -> Passed
-    requires { ⌜ (length (now file) ≤ mostBytes) × Here (now file) start grh (restAt (now file) start) × Room first (length (restAt (now file) start)) (length (now verdicts)) (length (now findings)) ⌝ }
-    requires { ⌜ (t ≤ largestTolerance) × Indexed 2 (now languages) (now «language_slots») × Indexed 3 (now societies) (now «society_slots») × Indexed 3 (now categories) (now «category_slots») ⌝ }
-    ensures { λ p. ⌜ Judged (now (file .entry)) (first + length (restAt (now (file .entry)) start)) first (joined (transactionVerdicts (tablesOf (now (languages .entry)) (now (societies .entry)) (now (categories .entry))) t (now (named .entry))) (transactionsOf (restAt (now (file .entry)) start))) (joined (transactionFindings (tablesOf (now (languages .entry)) (now (societies .entry)) (now (categories .entry))) t (now (named .entry))) (transactionsOf (restAt (now (file .entry)) start))) (p .at) (p .index) head (after (isInside cwr22) (restAt (now (file .entry)) start)) (now (verdicts .entry)) (now (findings .entry)) (now (verdicts .exit)) (now (findings .exit)) ⌝ }
-    ensures { λ p. ⌜ (p .stray ≡ isStrayAmong (now (named .entry)) (transactionsOf (restAt (now (file .entry)) start))) × (cls cwr22 (firstOf (after (isInside cwr22) (restAt (now (file .entry)) start))) ≡ grt) ⌝ }
+    requires { ⌜ (length (now file) ≤ mostBytes) × Here (now file) start grh (restAt (now file) start)
+        × Room first (length (restAt (now file) start)) (length (now verdicts)) (length (now findings)) ⌝ }
+    requires { ⌜ Prepared t (now languages) (now «language_slots») (now societies) (now «society_slots»)
+        (now categories) (now «category_slots») ⌝ }
+    ensures { λ p. ⌜ JudgedTransactions (tablesOf (now (languages .entry)) (now (societies .entry)) (now (categories .entry)))
+        t (now (named .entry)) (now (file .entry)) start first p
+        (now (verdicts .entry)) (now (findings .entry)) (now (verdicts .exit)) (now (findings .exit)) ⌝ }
+    ensures { λ p. ⌜ (p .stray ≡ isStrayAmong (now (named .entry)) (transactionsOf (restAt (now (file .entry)) start)))
+        × (cls cwr22 (firstOf (after (isInside cwr22) (restAt (now (file .entry)) start))) ≡ grt) ⌝ }
 {
     let mut p = Passed {
         at: start,
@@ -116,10 +116,16 @@ fn judge_group(
     verdicts: &mut [u8],
     findings: &mut [u8],
 ) -> Next
-    requires { ⌜ (length (now file) ≤ mostBytes) × Here (now file) at grt (restAt (now file) at) × (cls cwr22 (firstOf (restAt (now file) at)) ≡ grh) × Room index (length (restAt (now file) at)) (length (now verdicts)) (length (now findings)) ⌝ }
-    requires { ⌜ (t ≤ largestTolerance) × Indexed 2 (now languages) (now «language_slots») × Indexed 3 (now societies) (now «society_slots») × Indexed 3 (now categories) (now «category_slots») ⌝ }
-    ensures { λ n. ⌜ Judged (now (file .entry)) (index + length (restAt (now (file .entry)) at)) index (groupVerdicts (tablesOf (now (languages .entry)) (now (societies .entry)) (now (categories .entry))) t (groupOf (restAt (now (file .entry)) at))) (groupFindings (tablesOf (now (languages .entry)) (now (societies .entry)) (now (categories .entry))) t (groupOf (restAt (now (file .entry)) at))) (n .at) (n .index) grt (afterGroup (restAt (now (file .entry)) at)) (now (verdicts .entry)) (now (findings .entry)) (now (verdicts .exit)) (now (findings .exit)) ⌝ }
-    ensures { λ _. ⌜ groupsIn cwr22 (restAt (now (file .entry)) at) ≡ groupOf (restAt (now (file .entry)) at) ∷ groupsIn cwr22 (afterGroup (restAt (now (file .entry)) at)) ⌝ }
+    requires { ⌜ (length (now file) ≤ mostBytes) × Here (now file) at grt (restAt (now file) at)
+        × (cls cwr22 (firstOf (restAt (now file) at)) ≡ grh)
+        × Room index (length (restAt (now file) at)) (length (now verdicts)) (length (now findings)) ⌝ }
+    requires { ⌜ Prepared t (now languages) (now «language_slots») (now societies) (now «society_slots»)
+        (now categories) (now «category_slots») ⌝ }
+    ensures { λ n. ⌜ JudgedGroup (tablesOf (now (languages .entry)) (now (societies .entry)) (now (categories .entry)))
+        t (now (file .entry)) at index n
+        (now (verdicts .entry)) (now (findings .entry)) (now (verdicts .exit)) (now (findings .exit)) ⌝ }
+    ensures { λ _. ⌜ groupsIn cwr22 (restAt (now (file .entry)) at)
+        ≡ groupOf (restAt (now (file .entry)) at) ∷ groupsIn cwr22 (afterGroup (restAt (now (file .entry)) at)) ⌝ }
 {
     let end = at + GRH_LENGTH;
     let opening = &file[at..end];
@@ -174,9 +180,13 @@ fn judge_groups(
     verdicts: &mut [u8],
     findings: &mut [u8],
 ) -> Next
-    requires { ⌜ (length (now file) ≤ mostBytes) × Here (now file) start hdr (restAt (now file) start) × Room first (length (restAt (now file) start)) (length (now verdicts)) (length (now findings)) ⌝ }
-    requires { ⌜ (t ≤ largestTolerance) × Indexed 2 (now languages) (now «language_slots») × Indexed 3 (now societies) (now «society_slots») × Indexed 3 (now categories) (now «category_slots») ⌝ }
-    ensures { λ n. ⌜ Judged (now (file .entry)) (first + length (restAt (now (file .entry)) start)) first (joined (groupVerdicts (tablesOf (now (languages .entry)) (now (societies .entry)) (now (categories .entry))) t) (groupsIn cwr22 (restAt (now (file .entry)) start))) (joined (groupFindings (tablesOf (now (languages .entry)) (now (societies .entry)) (now (categories .entry))) t) (groupsIn cwr22 (restAt (now (file .entry)) start))) (n .at) (n .index) grt (restAt (now (file .entry)) (n .at)) (now (verdicts .entry)) (now (findings .entry)) (now (verdicts .exit)) (now (findings .exit)) ⌝ }
+    requires { ⌜ (length (now file) ≤ mostBytes) × Here (now file) start hdr (restAt (now file) start)
+        × Room first (length (restAt (now file) start)) (length (now verdicts)) (length (now findings)) ⌝ }
+    requires { ⌜ Prepared t (now languages) (now «language_slots») (now societies) (now «society_slots»)
+        (now categories) (now «category_slots») ⌝ }
+    ensures { λ n. ⌜ JudgedGroups (tablesOf (now (languages .entry)) (now (societies .entry)) (now (categories .entry)))
+        t (now (file .entry)) start first n
+        (now (verdicts .entry)) (now (findings .entry)) (now (verdicts .exit)) (now (findings .exit)) ⌝ }
     ensures { λ n. ⌜ length (restAt (now (file .entry)) (n .at)) ≡ 1 ⌝ }
 {
     let mut n = Next {
@@ -215,9 +225,13 @@ pub fn judge_file(
     verdicts: &mut [u8],
     findings: &mut [u8],
 )
-    requires { ⌜ (length (now file) ≤ mostBytes) × Here (now file) 0 unknown (restAt (now file) 0) × Room 0 (length (restAt (now file) 0)) (length (now verdicts)) (length (now findings)) ⌝ }
-    requires { ⌜ (t ≤ largestTolerance) × Indexed 2 (now languages) (now «language_slots») × Indexed 3 (now societies) (now «society_slots») × Indexed 3 (now categories) (now «category_slots») ⌝ }
-    ensures { λ _. ⌜ Written 0 (fileVerdicts (tablesOf (now (languages .entry)) (now (societies .entry)) (now (categories .entry))) t (content (now (file .entry)))) (fileFindings (tablesOf (now (languages .entry)) (now (societies .entry)) (now (categories .entry))) t (content (now (file .entry)))) (now (verdicts .entry)) (now (findings .entry)) (now (verdicts .exit)) (now (findings .exit)) ⌝ }
+    requires { ⌜ (length (now file) ≤ mostBytes) × Here (now file) 0 unknown (restAt (now file) 0)
+        × Room 0 (length (restAt (now file) 0)) (length (now verdicts)) (length (now findings)) ⌝ }
+    requires { ⌜ Prepared t (now languages) (now «language_slots») (now societies) (now «society_slots»)
+        (now categories) (now «category_slots») ⌝ }
+    ensures { λ _. ⌜ WrittenFile (tablesOf (now (languages .entry)) (now (societies .entry)) (now (categories .entry)))
+        t (now (file .entry))
+        (now (verdicts .entry)) (now (findings .entry)) (now (verdicts .exit)) (now (findings .exit)) ⌝ }
 {
     settle(0, 0, 0, verdicts, findings);
     let n = judge_groups(

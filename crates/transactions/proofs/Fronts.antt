@@ -63,12 +63,29 @@ some-header (r ∷ rs) e = refl
 
 -- ---- where it stands
 
-module _ (f : Bytes) (i : ℕ) (c : Class) (h : Here f i c (restAt f i)) (is-head : cls cwr22 (firstOf (restAt f i)) ≡ head) where
+-- a header stands at a byte of a file
+pub record Front : Type 0 where
+  pub file : Bytes
+  pub at : ℕ
+  pub class : Class
+  pub here : Here file at class (restAt file at)
+  pub headed : cls cwr22 (firstOf (restAt file at)) ≡ head
+
+module _ (this : Front) where
+  abbrev f : Bytes
+  f = this .file
+
+  abbrev i : ℕ
+  i = this .at
+
+  abbrev is-head : cls cwr22 (firstOf (restAt f i)) ≡ head
+  is-head = this .headed
+
   left : restAt f i ≡ firstOf (restAt f i) ∷ tailOf (restAt f i)
   left = some-header (restAt f i) is-head
 
-  front : First f i c (rowFor (take 3 (drop i f))) (firstOf (restAt f i)) (tailOf (restAt f i))
-  front = record-here (subst (Here f i c) left h) (rowFor (take 3 (drop i f))) refl
+  front : First f i (this .class) (rowFor (take 3 (drop i f))) (firstOf (restAt f i)) (tailOf (restAt f i))
+  front = record-here (subst (Here f i (this .class)) left (this .here)) (rowFor (take 3 (drop i f))) refl
 
   size : rowFor (take 3 (drop i f)) .length ≡ 260
   size = sym (front .long) ∙ lengthy
@@ -104,10 +121,11 @@ module _ (f : Bytes) (i : ℕ) (c : Class) (h : Here f i c (restAt f i)) (is-hea
 
 -- ---- what is known of its details
 
-module _ (tables : Tables) (f : Bytes) (n : ℕ) (rs : List Bytes) (d : Details) (v₀ g₀ v g : Bytes) (done : Done tables f n rs d v₀ g₀ v g) where
+module _ {tables : Tables} {f : Bytes} {n : ℕ} {rs : List Bytes} {d : Details} {v₀ g₀ v g : Bytes} (done : Done tables f n rs d v₀ g₀ v g) where
   pub done-below : Below (2 ^ 60) (d .walk .tally .totals)
   done-below =
-      below-limits (d .walk .tally .totals) (span (isDetail cwr22) rs) (omega (arith, done .gone .room .few, done .gone .index)) (done .gone .known .below)
+      below-limits (d .walk .tally .totals) (span (isDetail cwr22) rs) (omega (arith, done .gone .room .few, done .gone .index))
+      (done .gone .known .below)
 
   pub done-v : length v ≡ length v₀
   done-v = kept-v (done .gone .written)
@@ -120,11 +138,13 @@ module _ (tables : Tables) (f : Bytes) (n : ℕ) (rs : List Bytes) (d : Details)
 
 -- ---- its sets and verdicts, once its details and its header are written and raised
 
-pub transacted : (tables : Tables) (t : ℕ) (named f : Bytes) (i : ℕ) (rs : List Bytes) (d : Details) (h : Head) (v₀ g₀ v₁ g₁ v₂ g₂ : Bytes) (least : ℕ) (ys : Bytes)
+pub transacted : (tables : Tables) (t : ℕ) (named f : Bytes) (i : ℕ) (rs : List Bytes) (d : Details) (h : Head)
+    → (v₀ g₀ v₁ g₁ v₂ g₂ : Bytes) (least : ℕ) (ys : Bytes)
     → Done tables f (i + 1) (tailOf rs) d v₀ g₀ v₁ g₁ → Headed tables t named (frontOf rs) h
     → Written i (h .level ∷ []) (headerFindings tables t named (frontOf rs) ∷ []) v₁ g₁ v₂ g₂
     → least ≡ cond (h .rejects || d .walk .rejects) 3 0 → ys ≡ raised least (take (d .walk .index - i) (drop i v₂))
-    → Transacted tables t named f i rs (record { at = d .walk .at; index = d .walk .index; place = d .place; stray = h .stray }) v₀ g₀ (putMid i (d .walk .index - i) v₂ ys) g₂
+    → Transacted tables t named f i rs (record { at = d .walk .at; index = d .walk .index; place = d .place; stray = h .stray })
+    v₀ g₀ (putMid i (d .walk .index - i) v₂ ys) g₂
 unfolding transactionFindings transactionVerdicts
 transacted tables t named f i rs d h v₀ g₀ v₁ g₁ v₂ g₂ least ys done headed w l y =
     let ds = frontOf rs .details in

@@ -27,14 +27,15 @@ use Rattle.totals.specs.Sums.{Below}
 use Rattle.edits.proofs.Before.{last-most}
 use Rattle.tally.specs.Known.{Known}
 use Rattle.tally.proofs.Laws.{below-limits}
-use Rattle.details.specs.Stepped.{Stands}
+use Rattle.details.specs.declared.Step.{Step}
+use Rattle.details.specs.Stepped.{Stands, Stepped}
 use Rattle.headers.specs.declared.Links.{Links}
 use Rattle.headers.specs.Headed.{Linked}
 use Rattle.tally.specs.declared.Tally.{Tally}
 use Rattle.buffers.proofs.Splice.{splice-nil}
 use Rattle.buffers.proofs.Entries.{kept-v, kept-f}
 use Rattle.transactions.specs.declared.Walk.{Walk}
-use Rattle.transactions.specs.Walk.{restAt, tailOf, Room, Gone, Done}
+use Rattle.transactions.specs.Walk.{restAt, tailOf, Room, Gone, GoesOn, Done}
 use Rattle.transactions.proofs.Laws.{some-record}
 
 pub record Going (f s : Bytes) (start first : ℕ) (v₀ g₀ : Bytes) (c : Chains) (w : Walk) (v g : Bytes) (ds : List Bytes) : Type 0 where
@@ -161,7 +162,7 @@ module _ (turn : Turn) where
 
   -- ---- the record that stands here
 
-  module _ (kind : Row) (its : kind ≡ rowFor (take 3 (drop (w .at) f))) where
+  module _ {kind : Row} (its : kind ≡ rowFor (take 3 (drop (w .at) f))) where
     pub at-first : First f (w .at) head kind r rs
     at-first = record-here here kind its
 
@@ -174,18 +175,22 @@ module _ (turn : Turn) where
     pub stands : kind .place ≡ 3 → Stands kind r
     stands p = ((at-first .own, is-detail p), at-first .long)
 
-    pub detail-is : kind .place ≡ 3 → cls cwr22 r ≡ detail
-    detail-is p = is-detail p
-
     -- one detail more
+    pub one-more : kind .place ≡ 3 → (one : Step) (w' : Walk) (v' g' : Bytes) → GoesOn w kind one w' v g v' g'
+        → ((tables : Tables) → tables .societies ≡ s → Stepped tables ds r one)
+        → (tables : Tables) → tables .societies ≡ s → Gone tables f first (ds ++ r ∷ []) rs w' v₀ g₀ v' g'
+    one-more p one w' v' g' goes stepped tables e = goes tables f first ds r rs v₀ g₀ (gone tables e) at-first (is-detail p) (stepped tables e)
+
     pub going-on : kind .place ≡ 3 → (c' : Chains) (w' : Walk) (v' g' : Bytes) → Tallied c' (ds ++ r ∷ [])
-        → ((tables : Tables) → tables .societies ≡ s → Gone tables f first (ds ++ r ∷ []) rs w' v₀ g₀ v' g') → Inv f s start first v₀ g₀ c' w' v' g'
+        → ((tables : Tables) → tables .societies ≡ s → Gone tables f first (ds ++ r ∷ []) rs w' v₀ g₀ v' g')
+        → Inv f s start first v₀ g₀ c' w' v' g'
     unfolding some
     going-on p c' w' v' g' k n =
         let d : isDetail cwr22 r ≡ true = rw (is-detail p) in
         let q : restAt f (w' .at) ≡ rs = n some refl .here .left in
-        let sp : span (isDetail cwr22) (restAt f (w .at)) ≡ r ∷ span (isDetail cwr22) (restAt f (w' .at)) = ap (span (isDetail cwr22)) left ∙ rw (d, q) in
-        let af : after (isDetail cwr22) (restAt f (w .at)) ≡ after (isDetail cwr22) (restAt f (w' .at)) = ap (after (isDetail cwr22)) left ∙ rw (d, q) in (
+        let is = isDetail cwr22 in
+        let sp : span is (restAt f (w .at)) ≡ r ∷ span is (restAt f (w' .at)) = ap (span is) left ∙ rw (d, q) in
+        let af : after is (restAt f (w .at)) ≡ after is (restAt f (w' .at)) = ap (after is) left ∙ rw (d, q) in (
           ds ++ r ∷ [],
           record {
             gone = λ tables e. subst (λ (l : List Bytes). Gone tables f first (ds ++ r ∷ []) l w' v₀ g₀ v' g') (sym q) (n tables e);
@@ -196,7 +201,8 @@ module _ (turn : Turn) where
         )
 
     -- so fewer are left
-    pub fewer-left : (w' : Walk) (v' g' : Bytes) → ((tables : Tables) → tables .societies ≡ s → Gone tables f first (ds ++ r ∷ []) rs w' v₀ g₀ v' g')
+    pub fewer-left : (w' : Walk) (v' g' : Bytes)
+        → ((tables : Tables) → tables .societies ≡ s → Gone tables f first (ds ++ r ∷ []) rs w' v₀ g₀ v' g')
         → length (restAt f (w' .at)) < length (restAt f (w .at))
     unfolding some
     fewer-left w' v' g' n = omega (arith, ap length (n some refl .here .left), ap length left)
@@ -204,15 +210,17 @@ module _ (turn : Turn) where
     -- the end
     no-detail : (kind .place ≡ 3 → ⊥) → isDetail cwr22 r ≡ false
     no-detail n =
+        let placed = ap (λ (k : Row). k .place) (at-first .own) ∙ place-class r in
         by-cases (isDetail cwr22 r)
-        (λ e. absurd (n (ap (λ (k : Row). k .place) (at-first .own) ∙ place-class r ∙ ap code (sym (is→eq detail (cls cwr22 r) (is-T (isDetail cwr22 r) e))))))
+        (λ e. absurd (n (placed ∙ ap code (sym (is→eq detail (cls cwr22 r) (is-T (isDetail cwr22 r) e))))))
         (λ e. e)
 
     pub done : (kind .place ≡ 3 → ⊥) → (l : Links) → Linked l ds → (tables : Tables) → tables .societies ≡ s
         → Done tables f first (restAt f start) (record { walk = w; links = l; place = kind .place }) v₀ g₀ v g
     done n l k tables e =
         let d = no-detail n in
-        let sp : span (isDetail cwr22) (restAt f start) ≡ ds = going .split ∙ ap (λ q. ds ++ span (isDetail cwr22) q) left ∙ rw d (append-nil ds) in
+        let sp : span (isDetail cwr22) (restAt f start) ≡ ds =
+        going .split ∙ ap (λ q. ds ++ span (isDetail cwr22) q) left ∙ rw d (append-nil ds) in
         let af : after (isDetail cwr22) (restAt f start) ≡ r ∷ rs = going .rest ∙ ap (after (isDetail cwr22)) left ∙ rw d in
         record {
           gone = rw (sp, af) (gone tables e);
@@ -222,7 +230,8 @@ module _ (turn : Turn) where
 
 -- ---- the start
 
-pub begins : (f s : Bytes) (start first : ℕ) (v g : Bytes) (c : Chains) (y : Tally) → Here f start head (restAt f start) → Room first (length (restAt f start)) (length v) (length g)
+pub begins : (f s : Bytes) (start first : ℕ) (v g : Bytes) (c : Chains) (y : Tally)
+    → Here f start head (restAt f start) → Room first (length (restAt f start)) (length v) (length g)
     → Tallied c [] → Known y [] → Inv f s start first v g c (record { at = start; index = first; tally = y; rejects = false }) v g
 unfolding findingBytes
 begins f s start first v g c y h m k n = (

@@ -59,17 +59,21 @@ pub some-record : (c : Class) → is trl c ≡ false → (rs : List Bytes) → A
 some-record c e [] a = absurd (subst T e a)
 some-record c e (r ∷ rs) a = refl
 
-module _ (tables : Tables) (f : Bytes) (first : ℕ) (ds : List Bytes) (r : Bytes) (rs : List Bytes) (w : Walk) (v₀ g₀ v g : Bytes) (before : Gone tables f first ds (r ∷ rs) w v₀ g₀ v g)
+module _ (tables : Tables) (f : Bytes) (first : ℕ) (ds : List Bytes) (r : Bytes) (rs : List Bytes) (w : Walk) (v₀ g₀ v g : Bytes)
+    (before : Gone tables f first ds (r ∷ rs) w v₀ g₀ v g)
     (kind : Row) (here : First f (w .at) head kind r rs) (d : cls cwr22 r ≡ detail) where
   pub gone-on : (found : Found) (y : Tally) (v' g' : Bytes) → Judged tables ds r found → Known y (ds ++ r ∷ [])
       → Written (w .index) (found .level ∷ []) (ownFindings tables ds r ∷ []) v g v' g'
-      → Gone tables f first (ds ++ r ∷ []) rs (record { at = w .at + kind .length + 2; index = w .index + 1; tally = y; rejects = w .rejects || eqb (found .level) 3 }) v₀ g₀ v' g'
+      → Gone tables f first (ds ++ r ∷ []) rs
+      (record { at = w .at + kind .length + 2; index = w .index + 1; tally = y; rejects = w .rejects || eqb (found .level) 3 })
+      v₀ g₀ v' g'
   gone-on found y v' g' j k n =
       let sets = detailsFrom tables [] ds in
       let own = ownFindings tables ds r in
       let last : detailsFrom tables [] (ds ++ r ∷ []) ≡ sets ++ own ∷ [] = details-last tables [] ds r in
       let i : w .index ≡ first + length sets = before .index ∙ ap (λ m. first + m) (sym (length-details tables [] ds)) in
-      let both : Written first (map worst sets ++ found .level ∷ []) (sets ++ own ∷ []) v₀ g₀ v' g' = then (before .written) (subst (λ (m : ℕ). Written m (found .level ∷ []) (own ∷ []) v g v' g') i n) in
+      let both : Written first (map worst sets ++ found .level ∷ []) (sets ++ own ∷ []) v₀ g₀ v' g' =
+      then (before .written) (subst (λ (m : ℕ). Written m (found .level ∷ []) (own ∷ []) v g v' g') i n) in
       record {
         here = placed-like detail head refl (λ e q. q) (subst (λ (k : Class). Here f (w .at + kind .length + 2) k rs) d (here .next));
         room = record {

@@ -1,11 +1,11 @@
 -- Internal: a walk over the details of a transaction: what it has done, and what is left.
 use mathlib.Core.Path.{_≡_}
-use mathlib.Core.List.{List, [], _∷_, map}
+use mathlib.Core.List.{List, [], _∷_, _++_, map}
 use Prim.Native.Nat.{ℕ, suc, _+_, _*_, _≤_}
 use lib.ListN.{length, drop}
 use Rattle.format.specs.Bytes.{Bytes}
 use Rattle.format.specs.Doc.{Transaction}
-use Rattle.format.specs.Table.{head}
+use Rattle.format.specs.Table.{head, detail}
 use Rattle.format.specs.Cwr22.{cwr22}
 use Rattle.format.specs.Checks.{cls, classAt}
 use Rattle.format.specs.Lines.{lines}
@@ -13,12 +13,17 @@ use Rattle.format.specs.Structure.{mostRecords, firstOf}
 use Rattle.format.specs.Numbering.{recordsIn}
 use Rattle.format.specs.Tree.{span, after, isDetail}
 use Rattle.rules.specs.Tables.{Tables}
+use Rattle.rules.specs.Values.{largestTolerance}
+use Rattle.tables.specs.Index.{Indexed}
 use Rattle.rules.specs.Findings.{worst}
 use Rattle.rules.specs.Works.{is0, detailsFrom, transactionFindings}
 use Rattle.rules.specs.Records.{any}
 use Rattle.rules.specs.Verdicts.{rejects, transactionVerdicts}
-use Rattle.structure.specs.Cursor.{Here}
+use Rattle.kinds.specs.declared.Row.{Row}
+use Rattle.structure.specs.Cursor.{Here, First}
 use Rattle.tally.specs.Known.{Known}
+use Rattle.details.specs.declared.Step.{Step}
+use Rattle.details.specs.Stepped.{Stepped}
 use Rattle.headers.specs.Headed.{Linked}
 use Rattle.buffers.specs.Written.{Written}
 use Rattle.transactions.specs.declared.Walk.{Walk}
@@ -28,6 +33,12 @@ use Rattle.transactions.specs.declared.Passed.{Passed}
 -- the records of a file from a byte on
 abbrev pub restAt : Bytes → ℕ → List Bytes
 restAt f i = recordsIn (lines (drop i f))
+
+-- a tolerance that may be asked for, and three tables each with its index
+abbrev pub Prepared : (t : ℕ) (languages : Bytes) (languageSlots : List ℕ) (societies : Bytes) (societySlots : List ℕ)
+    → (categories : Bytes) (categorySlots : List ℕ) → Type 0
+Prepared t languages languageSlots societies societySlots categories categorySlots =
+    (t ≤ largestTolerance) × Indexed 2 languages languageSlots × Indexed 3 societies societySlots × Indexed 3 categories categorySlots
 
 -- from record i on n records are left, and buffers of v and g bytes have an entry for each
 pub record Room (i n v g : ℕ) : Type 0 where
@@ -44,6 +55,13 @@ pub record Gone (tables : Tables) (f : Bytes) (first : ℕ) (ds rs : List Bytes)
   pub known : Known (w .tally) ds
   pub rejects : w .rejects ≡ any rejects (detailsFrom tables [] ds)
   pub written : Written first (map worst (detailsFrom tables [] ds)) (detailsFrom tables [] ds) v₀ g₀ v g
+
+-- whatever w had gone: where a record of that row follows which is a detail, the step over it is written, and o has gone over it too
+abbrev pub GoesOn : (w : Walk) (row : Row) (s : Step) (o : Walk) (v g v' g' : Bytes) → Type 0
+GoesOn w row s o v g v' g' =
+    (tables : Tables) (f : Bytes) (first : ℕ) (ds : List Bytes) (r : Bytes) (rs : List Bytes) (v₀ g₀ : Bytes)
+    → Gone tables f first ds (r ∷ rs) w v₀ g₀ v g → First f (w .at) head row r rs → cls cwr22 r ≡ detail → Stepped tables ds r s
+    → Gone tables f first (ds ++ r ∷ []) rs o v₀ g₀ v' g'
 
 -- all details that stood there are done
 pub record Done (tables : Tables) (f : Bytes) (first : ℕ) (rs : List Bytes) (d : Details) (v₀ g₀ v g : Bytes) : Type 0 where

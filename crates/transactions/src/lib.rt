@@ -13,22 +13,20 @@ use kinds::Row;
 use tally::Tally;
 ghost use mathlib.Core.Path.{_≡_};
 ghost use mathlib.Core.Bool.{Bool, cond};
-ghost use mathlib.Core.List.{List, [], _∷_, _++_};
+ghost use mathlib.Core.List.{List};
 ghost use Prim.Native.Nat.{ℕ, _+_, _*_, _<_, _≤_};
 ghost use lib.ListN.{length};
 ghost use Rattle.format.specs.Bytes.{Bytes};
-ghost use Rattle.format.specs.Table.{Class, head, detail};
+ghost use Rattle.format.specs.Table.{Class, head};
 ghost use Rattle.format.specs.Cwr22.{cwr22};
 ghost use Rattle.format.specs.Checks.{cls};
 ghost use Rattle.format.specs.Structure.{mostBytes, firstOf};
-ghost use Rattle.rules.specs.Tables.{Tables};
-ghost use Rattle.rules.specs.Values.{largestTolerance};
+ghost use Rattle.rules.specs.Tables.{Tables, tablesOf};
 ghost use Rattle.tables.specs.Index.{Indexed};
 ghost use Rattle.chains.specs.Tallies.{chainsOf, Tallied};
 ghost use Rattle.headers.specs.Headed.{Linked};
-ghost use Rattle.structure.specs.Cursor.{Here, First};
-ghost use Rattle.details.specs.Stepped.{Stepped};
-ghost use Rattle.transactions.specs.Walk.{restAt, Room, Gone, Done, Transacted};
+ghost use Rattle.structure.specs.Cursor.{Here};
+ghost use Rattle.transactions.specs.Walk.{restAt, Prepared, Room, GoesOn, Done, Transacted};
 
 // Where the walk over a transaction's details stands: at a byte of the file, before a record of that number; what is known of the details
 // so far, and whether one of them has a finding that rejects the transaction.
@@ -48,8 +46,9 @@ pub struct Details {
 
 // After one detail more, of that row, which is written.
 fn on(w: Walk, row: Row, s: Step, verdicts: &mut [u8], findings: &mut [u8]) -> Walk
-    requires { ⌜ (w .at + row .length + 2 ≤ mostBytes) × (w .index < length (now verdicts)) × (8 * (w .index + 1) ≤ length (now findings)) ⌝ }
-    ensures { λ o. ⌜ ((tables : Tables) (f : Bytes) (first : ℕ) (ds : List Bytes) (r : Bytes) (rs : List Bytes) (v g : Bytes) → Gone tables f first ds (r ∷ rs) w v g (now (verdicts .entry)) (now (findings .entry)) → First f (w .at) head row r rs → cls cwr22 r ≡ detail → Stepped tables ds r s → Gone tables f first (ds ++ r ∷ []) rs o v g (now (verdicts .exit)) (now (findings .exit))) ⌝ }
+    requires { ⌜ (w .at + row .length + 2 ≤ mostBytes)
+        × (w .index < length (now verdicts)) × (8 * (w .index + 1) ≤ length (now findings)) ⌝ }
+    ensures { λ o. ⌜ GoesOn w row s o (now (verdicts .entry)) (now (findings .entry)) (now (verdicts .exit)) (now (findings .exit)) ⌝ }
 {
     let i = w.index;
     let found = s.found;
@@ -73,9 +72,12 @@ pub fn judge_details(
     verdicts: &mut [u8],
     findings: &mut [u8],
 ) -> Details
-    requires { ⌜ (length (now file) ≤ mostBytes) × Here (now file) start head (restAt (now file) start) × Room first (length (restAt (now file) start)) (length (now verdicts)) (length (now findings)) ⌝ }
+    requires { ⌜ (length (now file) ≤ mostBytes) × Here (now file) start head (restAt (now file) start)
+        × Room first (length (restAt (now file) start)) (length (now verdicts)) (length (now findings)) ⌝ }
     requires { ⌜ Indexed 3 (now societies) (now slots) ⌝ }
-    ensures { λ d. ⌜ ((tables : Tables) → tables .societies ≡ now (societies .entry) → Done tables (now (file .entry)) first (restAt (now (file .entry)) start) d (now (verdicts .entry)) (now (findings .entry)) (now (verdicts .exit)) (now (findings .exit))) ⌝ }
+    ensures { λ d. ⌜ ((tables : Tables) → tables .societies ≡ now (societies .entry)
+        → Done tables (now (file .entry)) first (restAt (now (file .entry)) start) d
+        (now (verdicts .entry)) (now (findings .entry)) (now (verdicts .exit)) (now (findings .exit))) ⌝ }
 {
     let rows = kinds::table();
     let mut begun: [u8; 100] = [0; 100];
@@ -125,7 +127,8 @@ pub fn judge_details(
 
 // Findings 11 to 14.
 fn links_of(met: Met, begun: &[u8; 100], sums: &[u64; 100]) -> Links
-    ensures { λ l. ⌜ ((ds : List Bytes) (es : List ℕ) (own paid : List Bool) → Tallied (chainsOf (now (begun .entry)) es own paid (now (sums .entry)) met) ds → Linked l ds) ⌝ }
+    ensures { λ l. ⌜ ((ds : List Bytes) (es : List ℕ) (own paid : List Bool)
+        → Tallied (chainsOf (now (begun .entry)) es own paid (now (sums .entry)) met) ds → Linked l ds) ⌝ }
 {
     Links {
         many: met.many,
@@ -168,9 +171,14 @@ pub fn judge_transaction(
     verdicts: &mut [u8],
     findings: &mut [u8],
 ) -> Passed
-    requires { ⌜ (length (now file) ≤ mostBytes) × ((c : Class) × Here (now file) at c (restAt (now file) at)) × (cls cwr22 (firstOf (restAt (now file) at)) ≡ head) × Room index (length (restAt (now file) at)) (length (now verdicts)) (length (now findings)) ⌝ }
-    requires { ⌜ (t ≤ largestTolerance) × Indexed 2 (now languages) (now «language_slots») × Indexed 3 (now societies) (now «society_slots») × Indexed 3 (now categories) (now «category_slots») ⌝ }
-    ensures { λ p. ⌜ Transacted (record { languages = now (languages .entry); societies = now (societies .entry); categories = now (categories .entry) }) t (now (named .entry)) (now (file .entry)) index (restAt (now (file .entry)) at) p (now (verdicts .entry)) (now (findings .entry)) (now (verdicts .exit)) (now (findings .exit)) ⌝ }
+    requires { ⌜ (length (now file) ≤ mostBytes) × ((c : Class) × Here (now file) at c (restAt (now file) at))
+        × (cls cwr22 (firstOf (restAt (now file) at)) ≡ head)
+        × Room index (length (restAt (now file) at)) (length (now verdicts)) (length (now findings)) ⌝ }
+    requires { ⌜ Prepared t (now languages) (now «language_slots») (now societies) (now «society_slots»)
+        (now categories) (now «category_slots») ⌝ }
+    ensures { λ p. ⌜ Transacted (tablesOf (now (languages .entry)) (now (societies .entry)) (now (categories .entry)))
+        t (now (named .entry)) (now (file .entry)) index (restAt (now (file .entry)) at) p
+        (now (verdicts .entry)) (now (findings .entry)) (now (verdicts .exit)) (now (findings .exit)) ⌝ }
 {
     let end = at + HEADER;
     let header = &file[at..end];

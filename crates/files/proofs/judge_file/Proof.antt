@@ -7,17 +7,41 @@ use Rattle.files.proofs.Files.{groups-here, header-room, groups-room, t
 use Rattle.files.proofs.judge_file.Statement.{statement}
 use Rattle.files.proofs.judge_file.Tie as tie
 
+abbrev start-of : tie.After-settle → tie.Start
+start-of c = c .before .before .before .before .before .before .before .before .before .before .before .before
+
+abbrev opened-of : tie.After-judge-groups → tie.After-settle
+opened-of c = c .before .before .before .before .before .before .before
+
 settle-requires : tie.Need-settle-requires
-settle-requires c κs = header-room _ (c .before .before .before .before .before .before .before .before .before .before .before .pre .0 .1) _ _ (c .before .before .before .before .before .before .before .before .before .before .before .pre .0 .2)
+settle-requires c κs =
+    let start = c .before .before .before .before .before .before .before .before .before .before .before in
+    header-room (start .pre .0 .1) (start .pre .0 .2)
 
 judge-groups-requires : tie.Need-judge-groups-requires
-judge-groups-requires c κs = ((c .before .before .before .before .before .before .before .before .before .before .before .before .before .before .before .before .before .before .pre .0 .0, groups-here _ (c .before .before .before .before .before .before .before .before .before .before .before .before .before .before .before .before .before .before .pre .0 .1), room-kept (c .before .before .before .before .before .before .settle .ensures [] nothing) (groups-room _ (c .before .before .before .before .before .before .before .before .before .before .before .before .before .before .before .before .before .before .pre .0 .1) _ _ (c .before .before .before .before .before .before .before .before .before .before .before .before .before .before .before .before .before .before .pre .0 .2))), c .before .before .before .before .before .before .before .before .before .before .before .before .before .before .before .before .before .before .pre .1)
+judge-groups-requires c κs =
+    let opened = c .before .before .before .before .before .before in
+    let start = start-of opened in
+    let here = start .pre .0 .1 in
+    let room = room-kept (opened .settle .ensures [] nothing) (groups-room here (start .pre .0 .2)) in
+    ((start .pre .0 .0, groups-here here, room), start .pre .1)
 
 settle-requires-2 : tie.Need-settle-requires-2
-settle-requires-2 c κs = trailer-room _ (c .before .before .before .before .before .before .before .before .before .before .before .before .before .before .before .before .before .before .before .before .before .before .before .before .before .pre .0 .1) _ _ (c .before .before .before .before .before .before .judge-groups .ensures .0) (c .before .before .before .before .before .before .judge-groups .ensures .1) (room-kept (c .before .before .before .before .before .before .before .before .before .before .before .before .before .settle .ensures [] nothing) (groups-room _ (c .before .before .before .before .before .before .before .before .before .before .before .before .before .before .before .before .before .before .before .before .before .before .before .before .before .pre .0 .1) _ _ (c .before .before .before .before .before .before .before .before .before .before .before .before .before .before .before .before .before .before .before .before .before .before .before .before .before .pre .0 .2)))
+settle-requires-2 c κs =
+    let groups = c .before .before .before .before .before .before in
+    let opened = opened-of groups in
+    let start = start-of opened in
+    let here = start .pre .0 .1 in
+    let room = room-kept (opened .settle .ensures [] nothing) (groups-room here (start .pre .0 .2)) in
+    trailer-room here _ _ (groups .judge-groups .ensures .0) (groups .judge-groups .ensures .1) room
 
 all : tie.Need-returns
-all c = file-done _ (c .before .before .before .before .before .before .before .before .before .before .before .before .before .before .before .before .before .before .before .before .before .before .before .before .before .before .before .before .before .before .pre .0 .1) _ _ (c .before .before .before .before .before .before .before .before .before .before .before .judge-groups .ensures .0) (c .before .before .before .before .before .before .before .before .before .before .before .judge-groups .ensures .1) (c .before .before .before .before .before .before .before .before .before .before .before .before .before .before .before .before .before .before .settle .ensures [] nothing) (c .before .before .before .before .settle2 .ensures [] nothing)
+all c =
+    let groups = c .before .before .before .before .before .before .before .before .before .before .before in
+    let opened = opened-of groups in
+    let here = start-of opened .pre .0 .1 in
+    file-done here _ _ (groups .judge-groups .ensures .0) (groups .judge-groups .ensures .1) (opened .settle .ensures [] nothing)
+    (c .before .before .before .before .settle2 .ensures [] nothing)
 
 same-length : tie.Need-same-length
 same-length c = kept-v (all c)

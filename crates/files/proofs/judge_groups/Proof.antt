@@ -16,28 +16,44 @@ abbrev μ-loop : tie.MeasureT-loop
     length (restAt file (n .at))
 
 loop-holds : tie.Need-loop-holds Inv-loop μ-loop
-loop-holds c = over-none _ _ _ _ _ _ _ (c .before .before .before .before .before .before .before .before .before .pre .0 .1) (c .before .before .before .before .before .before .before .before .before .pre .0 .2)
+loop-holds c =
+    let start = c .before .before .before .before .before .before .before .before .before in
+    over-none _ _ (start .pre .0 .1) (start .pre .0 .2)
 
 is-group-requires : tie.Need-is-group-requires Inv-loop μ-loop
-is-group-requires c κs = in-file _ _ _ _ _ _ _ (c .loop .inv)
+is-group-requires c κs = in-file _ _ (c .loop .inv)
 
 judge-group-requires : tie.Need-judge-group-requires Inv-loop μ-loop
-judge-group-requires c κs = ((c .before .before .before .before .before .before .before .before .before .before .before .before .before .before .pre .0 .0, over-here _ _ _ _ _ _ _ (c .before .before .before .before .loop .inv), group-here _ _ _ _ _ _ _ (c .before .before .before .before .loop .inv) (sym (c .before .before .before .is-group .ensures) ∙ c .before .before .if1 .taken), over-room _ _ _ _ _ _ _ (c .before .before .before .before .loop .inv) (c .before .before .before .before .before .before .before .before .before .before .before .before .before .before .pre .0 .2)), c .before .before .before .before .before .before .before .before .before .before .before .before .before .before .pre .1)
+judge-group-requires c κs =
+    let found = c .before .before .before in
+    let inv = found .before .loop .inv in
+    let start = c .before .before .before .before .before .before .before .before .before .before .before .before .before .before in
+    let is-grh = group-here _ _ inv (sym (found .is-group .ensures) ∙ c .before .before .if1 .taken) in
+    ((start .pre .0 .0, over-here _ _ inv, is-grh, over-room _ _ inv (start .pre .0 .2)), start .pre .1)
 
 loop-less : tie.Need-loop-less Inv-loop μ-loop
-loop-less c = fewer _ _ _ _ _ _ _ (c .before .before .before .before .before .before .before .before .before .loop .inv) _ _ _ (c .before .before .before .before .judge-group .ensures .0)
+loop-less c =
+    let judged = c .before .before .before .before in
+    let inv = judged .before .before .before .before .before .loop .inv in
+    fewer _ _ inv (judged .judge-group .result) (judged .judge-group .ensures .0)
 
 loop-again : tie.Need-loop-again Inv-loop μ-loop
-loop-again c = over-on _ _ _ _ _ _ _ (c .before .before .before .before .before .before .before .before .before .loop .inv) _ _ _ (c .before .before .before .before .judge-group .ensures .0) (c .before .before .before .before .judge-group .ensures .1)
+loop-again c =
+    let judged = c .before .before .before .before in
+    let inv = judged .before .before .before .before .before .loop .inv in
+    over-on _ _ inv (judged .judge-group .result) (judged .judge-group .ensures .0) (judged .judge-group .ensures .1)
 
 same-length : tie.Need-same-length Inv-loop μ-loop
-same-length c = same-v _ _ _ _ _ _ _ (c .before .before .loop .inv)
+same-length c = same-v _ _ (c .before .before .loop .inv)
 
 same-length-2 : tie.Need-same-length-2 Inv-loop μ-loop
-same-length-2 c = same-g _ _ _ _ _ _ _ (c .before .before .loop .inv)
+same-length-2 c = same-g _ _ (c .before .before .loop .inv)
 
 returns : tie.Need-returns Inv-loop μ-loop
-returns c = (over-end _ _ _ _ _ _ _ (c .before .before .loop .inv) (sym (c .before .is-group .ensures) ∙ c .if1 .left), one-left _ _ _ _ _ _ _ (c .before .before .loop .inv) (sym (c .before .is-group .ensures) ∙ c .if1 .left))
+returns c =
+    let inv = c .before .before .loop .inv in
+    let no-group = sym (c .before .is-group .ensures) ∙ c .if1 .left in
+    (over-end _ _ inv no-group, one-left _ _ inv no-group)
 
 pub judge-groups-spec : {M : Type 1} → statement M
 judge-groups-spec =

@@ -5,8 +5,11 @@ use mathlib.Core.Path.{_≡_, ap, _∙_, subst}
 use lib.ListN.{length, take, drop, length-drop}
 use borrow.Author.Needs.{needs}
 use Rattle.format.specs.Bytes.{Bytes}
+use Rattle.format.specs.Table.{head}
+use Rattle.rules.specs.Tables.{Tables}
 use Rattle.kinds.specs.Rows.{rowFor}
 use Rattle.kinds.proofs.Laws.{hinted}
+use Rattle.structure.specs.Cursor.{First}
 use Rattle.structure.proofs.Rows.{in-table}
 use Rattle.structure.proofs.Cursor.{to-end}
 use Rattle.chains.specs.Tallies.{chainsOf}
@@ -14,26 +17,29 @@ use Rattle.chains.proofs.Laws.{no-publisher, begins as none-yet}
 use Rattle.details.specs.Stepped.{Reads, Stepped}
 use Rattle.details.proofs.Laws.{publisher-here, shares-most, not-publisher}
 use Rattle.transactions.specs.Walk.{restAt}
-use Rattle.transactions.proofs.Going.{Inv, Turn, begins, ds, r, rs, three, same-v, same-g, in-v, in-g, below, last, known, tallied, small-chains, gone, at-first, bytes, stands, detail-is, going-on, fewer-left, done}
+use Rattle.transactions.proofs.Going.{Inv, Turn, begins, ds, r, rs, three, same-v, same-g, in-v, in-g, below, last, known, tallied}
+use Rattle.transactions.proofs.Going.{small-chains, at-first, bytes, stands, one-more, going-on, fewer-left, done}
 use Rattle.transactions.proofs.judge_details.Statement.{statement}
 use Rattle.transactions.proofs.judge_details.Tie as tie
 
 abbrev Inv-loop : tie.InvT-loop
-Inv-loop file start first societies slots verdicts₀ findings₀ rows begun₀ es₀ own₀ paid₀ sums₀ met₀ w₀ verdicts findings begun es own paid sums met w =
+Inv-loop file start first societies _ verdicts₀ findings₀ _ _ _ _ _ _ _ _ verdicts findings begun es own paid sums met w =
     Inv file societies start first verdicts₀ findings₀ (chainsOf begun es own paid sums met) w verdicts findings
 
 abbrev μ-loop : tie.MeasureT-loop
-μ-loop file start first societies slots verdicts₀ findings₀ rows begun₀ es₀ own₀ paid₀ sums₀ met₀ w₀ verdicts findings begun es own paid sums met w = length (restAt file (w .at))
+μ-loop file start first societies _ verdicts₀ findings₀ _ _ _ _ _ _ _ _ verdicts findings begun es own paid sums met w =
+    length (restAt file (w .at))
 
 abbrev turn : (c : tie.At-loop Inv-loop μ-loop) → Turn
 turn c =
+    let start = c .before .before .before .before .before .before .before .before in
     record {
-      file = c .before .before .before .before .before .before .before .before .args .file .now;
-      societies = c .before .before .before .before .before .before .before .before .args .societies .now;
-      start = c .before .before .before .before .before .before .before .before .args .start;
-      first = c .before .before .before .before .before .before .before .before .args .first;
-      verdicts₀ = c .before .before .before .before .before .before .before .before .args .verdicts .now;
-      findings₀ = c .before .before .before .before .before .before .before .before .args .findings .now;
+      file = start .args .file .now;
+      societies = start .args .societies .now;
+      start = start .args .start;
+      first = start .args .first;
+      verdicts₀ = start .args .verdicts .now;
+      findings₀ = start .args .findings .now;
       chains = chainsOf (c .loop .begun) (c .loop .es) (c .loop .own) (c .loop .paid) (c .loop .sums) (c .loop .met);
       walk = c .loop .w;
       verdicts = c .loop .verdicts;
@@ -41,12 +47,34 @@ turn c =
       inv = c .loop .inv;
     }
 
--- the row of the record that stands here
-its : (c : tie.After-confirmed-row Inv-loop μ-loop) → c .confirmed-row .result ≡ rowFor (take 3 (drop (c .before .before .before .before .before .before .before .loop .w .at) (c .before .before .before .before .before .before .before .before .before .before .before .before .before .before .before .args .file .now)))
-its c = c .confirmed-row .ensures ∙ ap (λ (b : Bytes). rowFor (take 3 b)) (to-end (c .before .before .before .before .before .before .before .before .before .before .before .before .before .before .before .args .file .now) (c .before .before .before .before .before .before .before .loop .w .at))
+-- ---- each call from one after it
+
+abbrev start-of : tie.After-confirmed-row Inv-loop μ-loop → tie.Start Inv-loop μ-loop
+start-of c = c .before .before .before .before .before .before .before .before .before .before .before .before .before .before .before
+
+-- the turn that a row was found in
+abbrev turned : tie.After-confirmed-row Inv-loop μ-loop → Turn
+turned c = turn (c .before .before .before .before .before .before .before)
+
+abbrev row-of : tie.After-size Inv-loop μ-loop → tie.After-confirmed-row Inv-loop μ-loop
+row-of c = c .before .before .before
+
+abbrev size-of : tie.After-read Inv-loop μ-loop → tie.After-size Inv-loop μ-loop
+size-of c = c .before .before .before .before .before
+
+abbrev other-size-of : tie.After-other Inv-loop μ-loop → tie.After-size Inv-loop μ-loop
+other-size-of c = c .before .before .before .before .before
+
+abbrev read-of : tie.After-judged Inv-loop μ-loop → tie.After-read Inv-loop μ-loop
+read-of c = c .before .before .before
+
+-- ---- the start, and the row of the record that stands here
 
 loop-holds : tie.Need-loop-holds Inv-loop μ-loop
-loop-holds c = begins (c .before .before .before .before .before .before .before .args .file .now) (c .before .before .before .before .before .before .before .args .societies .now) (c .before .before .before .before .before .before .before .args .start) (c .before .before .before .before .before .before .before .args .first) (c .before .before .before .before .before .before .before .args .verdicts .now) (c .before .before .before .before .before .before .before .args .findings .now) _ (c .start .result) (c .before .before .before .before .before .before .before .pre .0 .1) (c .before .before .before .before .before .before .before .pre .0 .2) none-yet (c .start .ensures)
+loop-holds c =
+    let start = c .before .before .before .before .before .before .before in
+    begins (start .args .file .now) (start .args .societies .now) (start .args .start) (start .args .first) (start .args .verdicts .now)
+    (start .args .findings .now) _ (c .start .result) (start .pre .0 .1) (start .pre .0 .2) none-yet (c .start .ensures)
 
 shared-slice-read-hint : tie.Need-shared-slice-read-hint Inv-loop μ-loop
 shared-slice-read-hint c = omega (arith, three (turn (c .before)))
@@ -73,65 +101,172 @@ part-confirmed-row-end : tie.Need-part-confirmed-row-end Inv-loop μ-loop
 part-confirmed-row-end c = omega (arith, three (turn (c .before .before .before .before .before)))
 
 confirmed-row-requires : tie.Need-confirmed-row-requires Inv-loop μ-loop
-confirmed-row-requires c κs = (
-  rw (to-end (c .before .before .before .before .before .before .before .before .before .before .before .before .before .before .args .file .now) (c .before .before .before .before .before .before .loop .w .at), length-drop (c .before .before .before .before .before .before .loop .w .at) (c .before .before .before .before .before .before .before .before .before .before .before .before .before .before .args .file .now)) (omega (arith, three (turn (c .before .before .before .before .before .before)))),
-  λ t e. hinted (c .before .before .before .before .before .before .before .before .table .result) (c .before .before .before .before .before .before .before .before .table .ensures) t (c .before .before .hint .result) (in-table (c .before .before .before .before .before .before .before .before .table .result) (c .before .before .before .before .before .before .before .before .table .ensures) (c .before .before .hint .result) (c .before .before .hint .ensures)) _ e,
-)
+confirmed-row-requires c κs =
+    let hint = c .before .before in
+    let here = turn (c .before .before .before .before .before .before) in
+    let table = c .before .before .before .before .before .before .before .before in
+    let rows = table .table .result in (
+      rw (to-end (here .file) (here .walk .at), length-drop (here .walk .at) (here .file)) (omega (arith, three here)),
+      λ t e. hinted rows (table .table .ensures) t (hint .hint .result)
+          (in-table rows (table .table .ensures) (hint .hint .result) (hint .hint .ensures)) _ e,
+    )
+
+its : (c : tie.After-confirmed-row Inv-loop μ-loop) → c .confirmed-row .result ≡ rowFor (take 3 (drop (turned c .walk .at) (turned c .file)))
+its c = c .confirmed-row .ensures ∙ ap (λ (b : Bytes). rowFor (take 3 b)) (to-end (turned c .file) (turned c .walk .at))
+
+-- ---- no detail: the end
 
 same-length : tie.Need-same-length Inv-loop μ-loop
-same-length c = same-v (turn (c .before .before .before .before .before .before .before .before .before .before .before .before))
+same-length c = same-v (turned (c .before .before .before .before .before))
 
 same-length-2 : tie.Need-same-length-2 Inv-loop μ-loop
-same-length-2 c = same-g (turn (c .before .before .before .before .before .before .before .before .before .before .before .before))
+same-length-2 c = same-g (turned (c .before .before .before .before .before))
 
 returns : tie.Need-returns Inv-loop μ-loop
-returns c t e = done (turn (c .before .before .before .before .before .before .before .before .before .before .before .before)) (c .before .before .before .before .before .confirmed-row .result) (its (c .before .before .before .before .before)) (c .before .before .before .if1 .taken) (c .links-of .result) (c .links-of .ensures (ds (turn (c .before .before .before .before .before .before .before .before .before .before .before .before))) _ _ _ (tallied (turn (c .before .before .before .before .before .before .before .before .before .before .before .before)))) t e
+returns c tables e =
+    let row = c .before .before .before .before .before in
+    let here = turned row in
+    done here (its row) (c .before .before .before .if1 .taken) (c .links-of .result) (c .links-of .ensures (ds here) _ _ _ (tallied here)) tables e
+
+-- ---- a detail
+
+first-at : (c : tie.After-confirmed-row Inv-loop μ-loop)
+    → First (turned c .file) (turned c .walk .at) head (c .confirmed-row .result) (r (turned c)) (rs (turned c))
+first-at c = at-first (turned c) (its c)
 
 add-end : tie.Need-add-end Inv-loop μ-loop
-add-end c = omega (arith, at-first (turn (c .before .before .before .before .before .before .before .before .before .before)) (c .before .before .before .confirmed-row .result) (its (c .before .before .before)) .ends, c .size .ensures, c .before .before .before .before .before .before .before .before .before .before .before .before .before .before .before .before .before .before .pre .0 .0)
+add-end c = omega (arith, first-at (row-of c) .ends, c .size .ensures, start-of (row-of c) .pre .0 .0)
 
 sub-record : tie.Need-sub-record Inv-loop μ-loop
-sub-record c = omega (arith, at-first (turn (c .before .before .before .before .before .before .before .before .before .before)) (c .before .before .before .confirmed-row .result) (its (c .before .before .before)) .ends, c .size .ensures)
+sub-record c = omega (arith, first-at (row-of c) .ends, c .size .ensures)
 
 part-record-start : tie.Need-part-record-start Inv-loop μ-loop
-part-record-start c = omega (arith, at-first (turn (c .before .before .before .before .before .before .before .before .before .before)) (c .before .before .before .confirmed-row .result) (its (c .before .before .before)) .ends, c .size .ensures)
+part-record-start c = omega (arith, first-at (row-of c) .ends, c .size .ensures)
 
 part-record-end : tie.Need-part-record-end Inv-loop μ-loop
-part-record-end c = omega (arith, at-first (turn (c .before .before .before .before .before .before .before .before .before .before)) (c .before .before .before .confirmed-row .result) (its (c .before .before .before)) .ends, c .size .ensures)
+part-record-end c = omega (arith, first-at (row-of c) .ends, c .size .ensures)
 
 -- the bytes that are lent are the record's
-lent : (c : tie.After-size Inv-loop μ-loop) → take (c .before .before .before .before .before .before .before .before .before .before .loop .w .at + c .size .result - c .before .before .before .before .before .before .before .before .before .before .loop .w .at) (drop (c .before .before .before .before .before .before .before .before .before .before .loop .w .at) (c .before .before .before .before .before .before .before .before .before .before .before .before .before .before .before .before .before .before .args .file .now)) ≡ r (turn (c .before .before .before .before .before .before .before .before .before .before))
-lent c = bytes (turn (c .before .before .before .before .before .before .before .before .before .before)) (c .before .before .before .confirmed-row .result) (its (c .before .before .before)) _ (ap (λ n. c .before .before .before .before .before .before .before .before .before .before .loop .w .at + n) (c .size .ensures))
+lent : (c : tie.After-size Inv-loop μ-loop)
+    → take (turned (row-of c) .walk .at + c .size .result - turned (row-of c) .walk .at) (drop (turned (row-of c) .walk .at) (turned (row-of c) .file))
+    ≡ r (turned (row-of c))
+lent c = bytes (turned (row-of c)) (its (row-of c)) _ (ap (λ n. turned (row-of c) .walk .at + n) (c .size .ensures))
+
+-- ---- a publisher
 
 read-requires : tie.Need-read-requires Inv-loop μ-loop
-read-requires c κs = rw (lent (c .before .before .before .before)) (publisher-here (c .before .before .before .before .before .before .before .confirmed-row .result) (r (turn (c .before .before .before .before .before .before .before .before .before .before .before .before .before .before))) (at-first (turn (c .before .before .before .before .before .before .before .before .before .before .before .before .before .before)) (c .before .before .before .before .before .before .before .confirmed-row .result) (its (c .before .before .before .before .before .before .before)) .own) (at-first (turn (c .before .before .before .before .before .before .before .before .before .before .before .before .before .before)) (c .before .before .before .before .before .before .before .confirmed-row .result) (its (c .before .before .before .before .before .before .before)) .long) (c .if2 .taken))
+read-requires c κs =
+    let size = c .before .before .before .before in
+    let row = row-of size in
+    let first = first-at row in
+    rw (lent size) (publisher-here (row .confirmed-row .result) (r (turned row)) (first .own) (first .long) (c .if2 .taken))
+
+reads : (c : tie.After-read Inv-loop μ-loop) → Reads (c .read .result) (r (turned (row-of (size-of c))))
+reads c = subst (λ (b : Bytes). Reads (c .read .result) b) (lent (size-of c)) (c .read .ensures)
 
 judged-requires : tie.Need-judged-requires Inv-loop μ-loop
-judged-requires c κs = (below (turn (c .before .before .before .before .before .before .before .before .before .before .before .before .before .before .before .before .before)), shares-most (c .before .before .read .result) (r (turn (c .before .before .before .before .before .before .before .before .before .before .before .before .before .before .before .before .before))) (subst (λ (b : Bytes). Reads (c .before .before .read .result) b) (lent (c .before .before .before .before .before .before .before)) (c .before .before .read .ensures)), last (turn (c .before .before .before .before .before .before .before .before .before .before .before .before .before .before .before .before .before)), rw (lent (c .before .before .before .before .before .before .before)) (publisher-here (c .before .before .before .before .before .before .before .before .before .before .confirmed-row .result) (r (turn (c .before .before .before .before .before .before .before .before .before .before .before .before .before .before .before .before .before))) (at-first (turn (c .before .before .before .before .before .before .before .before .before .before .before .before .before .before .before .before .before)) (c .before .before .before .before .before .before .before .before .before .before .confirmed-row .result) (its (c .before .before .before .before .before .before .before .before .before .before)) .own) (at-first (turn (c .before .before .before .before .before .before .before .before .before .before .before .before .before .before .before .before .before)) (c .before .before .before .before .before .before .before .before .before .before .confirmed-row .result) (its (c .before .before .before .before .before .before .before .before .before .before)) .long) (c .before .before .before .if2 .taken)), c .before .before .before .before .before .before .before .before .before .before .before .before .before .before .before .before .before .before .before .before .before .before .before .before .before .pre .1)
+judged-requires c κs =
+    let read = c .before .before in
+    let size = size-of read in
+    let row = row-of size in
+    let here = turned row in
+    let first = first-at row in (
+      below here,
+      shares-most (read .read .result) (r here) (reads read),
+      last here,
+      rw (lent size) (publisher-here (row .confirmed-row .result) (r here) (first .own) (first .long) (c .before .before .before .if2 .taken)),
+      start-of row .pre .1,
+    )
+
+stepped : (c : tie.After-judged Inv-loop μ-loop) (tables : Tables)
+    → tables .societies ≡ start-of (row-of (size-of (read-of c))) .args .societies .now
+    → Stepped tables (ds (turned (row-of (size-of (read-of c))))) (r (turned (row-of (size-of (read-of c))))) (c .judged .result)
+stepped c tables e =
+    let read = read-of c in
+    let size = size-of read in
+    let row = row-of size in
+    let here = turned row in
+    subst (λ (b : Bytes). Stepped tables (ds here) b (c .judged .result)) (lent size)
+    (c .judged .ensures tables (ds here) e (known here) (rw (lent size) (stands here (its row) (size .before .if1 .left))) (read .read .ensures)
+    (c .before .is-known .ensures (ds here) _ (tallied here .own) (read .read .ensures)))
 
 join-requires : tie.Need-join-requires Inv-loop μ-loop
-join-requires c κs = (small-chains (turn (c .before .before .before .before .before .before .before .before .before .before .before .before .before .before .before .before .before .before .before .before .before .before .before)), shares-most (c .before .before .before .before .before .before .before .before .read .result) (r (turn (c .before .before .before .before .before .before .before .before .before .before .before .before .before .before .before .before .before .before .before .before .before .before .before))) (subst (λ (b : Bytes). Reads (c .before .before .before .before .before .before .before .before .read .result) b) (lent (c .before .before .before .before .before .before .before .before .before .before .before .before .before)) (c .before .before .before .before .before .before .before .before .read .ensures)))
+join-requires c κs =
+    let read = c .before .before .before .before .before .before .before .before in
+    let here = turned (row-of (size-of read)) in
+    (small-chains here, shares-most (read .read .result) (r here) (reads read))
 
 on-requires : tie.Need-on-requires Inv-loop μ-loop
-on-requires c κs = (omega (arith, at-first (turn (c .before .before .before .before .before .before .before .before .before .before .before .before .before .before .before .before .before .before .before .before .before .before .before .before .before .before)) (c .before .before .before .before .before .before .before .before .before .before .before .before .before .before .before .before .before .before .before .confirmed-row .result) (its (c .before .before .before .before .before .before .before .before .before .before .before .before .before .before .before .before .before .before .before)) .ends, c .before .before .before .before .before .before .before .before .before .before .before .before .before .before .before .before .before .before .before .before .before .before .before .before .before .before .before .before .before .before .before .before .before .before .pre .0 .0), in-v (turn (c .before .before .before .before .before .before .before .before .before .before .before .before .before .before .before .before .before .before .before .before .before .before .before .before .before .before)), in-g (turn (c .before .before .before .before .before .before .before .before .before .before .before .before .before .before .before .before .before .before .before .before .before .before .before .before .before .before)))
+on-requires c κs =
+    let row = row-of (size-of (read-of (c .before .before .before .before .before .before .before .before))) in
+    (omega (arith, first-at row .ends, start-of row .pre .0 .0), in-v (turned row), in-g (turned row))
 
 loop-less : tie.Need-loop-less Inv-loop μ-loop
-loop-less c = fewer-left (turn (c .before .before .before .before .before .before .before .before .before .before .before .before .before .before .before .before .before .before .before .before .before .before .before .before .before .before .before .before .before .before .before)) (c .before .before .before .before .before .before .before .before .before .before .before .before .before .before .before .before .before .before .before .before .before .before .before .before .confirmed-row .result) (its (c .before .before .before .before .before .before .before .before .before .before .before .before .before .before .before .before .before .before .before .before .before .before .before .before)) (c .before .before .before .before .on .result) _ _ (λ t e. c .before .before .before .before .on .ensures t (c .before .before .before .before .before .before .before .before .before .before .before .before .before .before .before .before .before .before .before .before .before .before .before .before .before .before .before .before .before .before .before .before .before .before .before .before .before .before .before .args .file .now) (c .before .before .before .before .before .before .before .before .before .before .before .before .before .before .before .before .before .before .before .before .before .before .before .before .before .before .before .before .before .before .before .before .before .before .before .before .before .before .before .args .first) (ds (turn (c .before .before .before .before .before .before .before .before .before .before .before .before .before .before .before .before .before .before .before .before .before .before .before .before .before .before .before .before .before .before .before))) (r (turn (c .before .before .before .before .before .before .before .before .before .before .before .before .before .before .before .before .before .before .before .before .before .before .before .before .before .before .before .before .before .before .before))) (rs (turn (c .before .before .before .before .before .before .before .before .before .before .before .before .before .before .before .before .before .before .before .before .before .before .before .before .before .before .before .before .before .before .before))) (c .before .before .before .before .before .before .before .before .before .before .before .before .before .before .before .before .before .before .before .before .before .before .before .before .before .before .before .before .before .before .before .before .before .before .before .before .before .before .before .args .verdicts .now) (c .before .before .before .before .before .before .before .before .before .before .before .before .before .before .before .before .before .before .before .before .before .before .before .before .before .before .before .before .before .before .before .before .before .before .before .before .before .before .before .args .findings .now) (gone (turn (c .before .before .before .before .before .before .before .before .before .before .before .before .before .before .before .before .before .before .before .before .before .before .before .before .before .before .before .before .before .before .before)) t e) (at-first (turn (c .before .before .before .before .before .before .before .before .before .before .before .before .before .before .before .before .before .before .before .before .before .before .before .before .before .before .before .before .before .before .before)) (c .before .before .before .before .before .before .before .before .before .before .before .before .before .before .before .before .before .before .before .before .before .before .before .before .confirmed-row .result) (its (c .before .before .before .before .before .before .before .before .before .before .before .before .before .before .before .before .before .before .before .before .before .before .before .before))) (detail-is (turn (c .before .before .before .before .before .before .before .before .before .before .before .before .before .before .before .before .before .before .before .before .before .before .before .before .before .before .before .before .before .before .before)) (c .before .before .before .before .before .before .before .before .before .before .before .before .before .before .before .before .before .before .before .before .before .before .before .before .confirmed-row .result) (its (c .before .before .before .before .before .before .before .before .before .before .before .before .before .before .before .before .before .before .before .before .before .before .before .before)) (c .before .before .before .before .before .before .before .before .before .before .before .before .before .before .before .before .before .before .before .before .before .before .if1 .left)) (subst (λ (b : Bytes). Stepped t (ds (turn (c .before .before .before .before .before .before .before .before .before .before .before .before .before .before .before .before .before .before .before .before .before .before .before .before .before .before .before .before .before .before .before))) b (c .before .before .before .before .before .before .before .before .before .before .before .before .before .judged .result)) (lent (c .before .before .before .before .before .before .before .before .before .before .before .before .before .before .before .before .before .before .before .before .before)) (c .before .before .before .before .before .before .before .before .before .before .before .before .before .judged .ensures t (ds (turn (c .before .before .before .before .before .before .before .before .before .before .before .before .before .before .before .before .before .before .before .before .before .before .before .before .before .before .before .before .before .before .before))) e (known (turn (c .before .before .before .before .before .before .before .before .before .before .before .before .before .before .before .before .before .before .before .before .before .before .before .before .before .before .before .before .before .before .before))) (rw (lent (c .before .before .before .before .before .before .before .before .before .before .before .before .before .before .before .before .before .before .before .before .before)) (stands (turn (c .before .before .before .before .before .before .before .before .before .before .before .before .before .before .before .before .before .before .before .before .before .before .before .before .before .before .before .before .before .before .before)) (c .before .before .before .before .before .before .before .before .before .before .before .before .before .before .before .before .before .before .before .before .before .before .before .before .confirmed-row .result) (its (c .before .before .before .before .before .before .before .before .before .before .before .before .before .before .before .before .before .before .before .before .before .before .before .before)) (c .before .before .before .before .before .before .before .before .before .before .before .before .before .before .before .before .before .before .before .before .before .before .if1 .left))) (c .before .before .before .before .before .before .before .before .before .before .before .before .before .before .before .before .read .ensures) (c .before .before .before .before .before .before .before .before .before .before .before .before .before .before .is-known .ensures (ds (turn (c .before .before .before .before .before .before .before .before .before .before .before .before .before .before .before .before .before .before .before .before .before .before .before .before .before .before .before .before .before .before .before))) _ (tallied (turn (c .before .before .before .before .before .before .before .before .before .before .before .before .before .before .before .before .before .before .before .before .before .before .before .before .before .before .before .before .before .before .before)) .own) (c .before .before .before .before .before .before .before .before .before .before .before .before .before .before .before .before .read .ensures)))))
+loop-less c =
+    let on = c .before .before .before .before in
+    let judged = c .before .before .before .before .before .before .before .before .before .before .before .before .before in
+    let size = size-of (read-of judged) in
+    let row = row-of size in
+    fewer-left (turned row) (its row) (on .on .result) _ _
+    (one-more (turned row) (its row) (size .before .if1 .left) (judged .judged .result) (on .on .result) _ _ (on .on .ensures) (stepped judged))
 
 loop-again : tie.Need-loop-again Inv-loop μ-loop
-loop-again c = going-on (turn (c .before .before .before .before .before .before .before .before .before .before .before .before .before .before .before .before .before .before .before .before .before .before .before .before .before .before .before .before .before .before .before)) (c .before .before .before .before .before .before .before .before .before .before .before .before .before .before .before .before .before .before .before .before .before .before .before .before .confirmed-row .result) (its (c .before .before .before .before .before .before .before .before .before .before .before .before .before .before .before .before .before .before .before .before .before .before .before .before)) (c .before .before .before .before .before .before .before .before .before .before .before .before .before .before .before .before .before .before .before .before .before .before .if1 .left) (chainsOf _ _ _ _ _ (c .before .before .before .before .before .before .before .join .result)) (c .before .before .before .before .on .result) _ _ (c .before .before .before .before .before .before .before .join .ensures (ds (turn (c .before .before .before .before .before .before .before .before .before .before .before .before .before .before .before .before .before .before .before .before .before .before .before .before .before .before .before .before .before .before .before))) (r (turn (c .before .before .before .before .before .before .before .before .before .before .before .before .before .before .before .before .before .before .before .before .before .before .before .before .before .before .before .before .before .before .before))) (tallied (turn (c .before .before .before .before .before .before .before .before .before .before .before .before .before .before .before .before .before .before .before .before .before .before .before .before .before .before .before .before .before .before .before))) (subst (λ (b : Bytes). Reads (c .before .before .before .before .before .before .before .before .before .before .before .before .before .before .before .before .read .result) b) (lent (c .before .before .before .before .before .before .before .before .before .before .before .before .before .before .before .before .before .before .before .before .before)) (c .before .before .before .before .before .before .before .before .before .before .before .before .before .before .before .before .read .ensures))) (λ t e. c .before .before .before .before .on .ensures t (c .before .before .before .before .before .before .before .before .before .before .before .before .before .before .before .before .before .before .before .before .before .before .before .before .before .before .before .before .before .before .before .before .before .before .before .before .before .before .before .args .file .now) (c .before .before .before .before .before .before .before .before .before .before .before .before .before .before .before .before .before .before .before .before .before .before .before .before .before .before .before .before .before .before .before .before .before .before .before .before .before .before .before .args .first) (ds (turn (c .before .before .before .before .before .before .before .before .before .before .before .before .before .before .before .before .before .before .before .before .before .before .before .before .before .before .before .before .before .before .before))) (r (turn (c .before .before .before .before .before .before .before .before .before .before .before .before .before .before .before .before .before .before .before .before .before .before .before .before .before .before .before .before .before .before .before))) (rs (turn (c .before .before .before .before .before .before .before .before .before .before .before .before .before .before .before .before .before .before .before .before .before .before .before .before .before .before .before .before .before .before .before))) (c .before .before .before .before .before .before .before .before .before .before .before .before .before .before .before .before .before .before .before .before .before .before .before .before .before .before .before .before .before .before .before .before .before .before .before .before .before .before .before .args .verdicts .now) (c .before .before .before .before .before .before .before .before .before .before .before .before .before .before .before .before .before .before .before .before .before .before .before .before .before .before .before .before .before .before .before .before .before .before .before .before .before .before .before .args .findings .now) (gone (turn (c .before .before .before .before .before .before .before .before .before .before .before .before .before .before .before .before .before .before .before .before .before .before .before .before .before .before .before .before .before .before .before)) t e) (at-first (turn (c .before .before .before .before .before .before .before .before .before .before .before .before .before .before .before .before .before .before .before .before .before .before .before .before .before .before .before .before .before .before .before)) (c .before .before .before .before .before .before .before .before .before .before .before .before .before .before .before .before .before .before .before .before .before .before .before .before .confirmed-row .result) (its (c .before .before .before .before .before .before .before .before .before .before .before .before .before .before .before .before .before .before .before .before .before .before .before .before))) (detail-is (turn (c .before .before .before .before .before .before .before .before .before .before .before .before .before .before .before .before .before .before .before .before .before .before .before .before .before .before .before .before .before .before .before)) (c .before .before .before .before .before .before .before .before .before .before .before .before .before .before .before .before .before .before .before .before .before .before .before .before .confirmed-row .result) (its (c .before .before .before .before .before .before .before .before .before .before .before .before .before .before .before .before .before .before .before .before .before .before .before .before)) (c .before .before .before .before .before .before .before .before .before .before .before .before .before .before .before .before .before .before .before .before .before .before .if1 .left)) (subst (λ (b : Bytes). Stepped t (ds (turn (c .before .before .before .before .before .before .before .before .before .before .before .before .before .before .before .before .before .before .before .before .before .before .before .before .before .before .before .before .before .before .before))) b (c .before .before .before .before .before .before .before .before .before .before .before .before .before .judged .result)) (lent (c .before .before .before .before .before .before .before .before .before .before .before .before .before .before .before .before .before .before .before .before .before)) (c .before .before .before .before .before .before .before .before .before .before .before .before .before .judged .ensures t (ds (turn (c .before .before .before .before .before .before .before .before .before .before .before .before .before .before .before .before .before .before .before .before .before .before .before .before .before .before .before .before .before .before .before))) e (known (turn (c .before .before .before .before .before .before .before .before .before .before .before .before .before .before .before .before .before .before .before .before .before .before .before .before .before .before .before .before .before .before .before))) (rw (lent (c .before .before .before .before .before .before .before .before .before .before .before .before .before .before .before .before .before .before .before .before .before)) (stands (turn (c .before .before .before .before .before .before .before .before .before .before .before .before .before .before .before .before .before .before .before .before .before .before .before .before .before .before .before .before .before .before .before)) (c .before .before .before .before .before .before .before .before .before .before .before .before .before .before .before .before .before .before .before .before .before .before .before .before .confirmed-row .result) (its (c .before .before .before .before .before .before .before .before .before .before .before .before .before .before .before .before .before .before .before .before .before .before .before .before)) (c .before .before .before .before .before .before .before .before .before .before .before .before .before .before .before .before .before .before .before .before .before .before .if1 .left))) (c .before .before .before .before .before .before .before .before .before .before .before .before .before .before .before .before .read .ensures) (c .before .before .before .before .before .before .before .before .before .before .before .before .before .before .is-known .ensures (ds (turn (c .before .before .before .before .before .before .before .before .before .before .before .before .before .before .before .before .before .before .before .before .before .before .before .before .before .before .before .before .before .before .before))) _ (tallied (turn (c .before .before .before .before .before .before .before .before .before .before .before .before .before .before .before .before .before .before .before .before .before .before .before .before .before .before .before .before .before .before .before)) .own) (c .before .before .before .before .before .before .before .before .before .before .before .before .before .before .before .before .read .ensures)))))
+loop-again c =
+    let on = c .before .before .before .before in
+    let join = c .before .before .before .before .before .before .before in
+    let judged = c .before .before .before .before .before .before .before .before .before .before .before .before .before in
+    let read = read-of judged in
+    let size = size-of read in
+    let row = row-of size in
+    let here = turned row in
+    let is-detail = size .before .if1 .left in
+    going-on here (its row) is-detail (chainsOf _ _ _ _ _ (join .join .result)) (on .on .result) _ _
+    (join .join .ensures (ds here) (r here) (tallied here) (reads read))
+    (one-more here (its row) is-detail (judged .judged .result) (on .on .result) _ _ (on .on .ensures) (stepped judged))
+
+-- ---- another detail
 
 other-requires : tie.Need-other-requires Inv-loop μ-loop
-other-requires c κs = (below (turn (c .before .before .before .before .before .before .before .before .before .before .before .before .before .before)), rw (lent (c .before .before .before .before)) (stands (turn (c .before .before .before .before .before .before .before .before .before .before .before .before .before .before)) (c .before .before .before .before .before .before .before .confirmed-row .result) (its (c .before .before .before .before .before .before .before)) (c .before .before .before .before .before .if1 .left)), c .if2 .left)
+other-requires c κs =
+    let size = c .before .before .before .before in
+    let row = row-of size in
+    let here = turned row in
+    (below here, rw (lent size) (stands here (its row) (size .before .if1 .left)), c .if2 .left)
+
+stepped-2 : (c : tie.After-other Inv-loop μ-loop) (tables : Tables)
+    → Stepped tables (ds (turned (row-of (other-size-of c)))) (r (turned (row-of (other-size-of c)))) (c .other .result)
+stepped-2 c tables =
+    let size = other-size-of c in
+    let here = turned (row-of size) in
+    subst (λ (b : Bytes). Stepped tables (ds here) b (c .other .result)) (lent size) (c .other .ensures tables (ds here) (known here))
 
 on-requires-2 : tie.Need-on-requires-2 Inv-loop μ-loop
-on-requires-2 c κs = (omega (arith, at-first (turn (c .before .before .before .before .before .before .before .before .before .before .before .before .before .before .before .before .before)) (c .before .before .before .before .before .before .before .before .before .before .confirmed-row .result) (its (c .before .before .before .before .before .before .before .before .before .before)) .ends, c .before .before .before .before .before .before .before .before .before .before .before .before .before .before .before .before .before .before .before .before .before .before .before .before .before .pre .0 .0), in-v (turn (c .before .before .before .before .before .before .before .before .before .before .before .before .before .before .before .before .before)), in-g (turn (c .before .before .before .before .before .before .before .before .before .before .before .before .before .before .before .before .before)))
+on-requires-2 c κs =
+    let row = c .before .before .before .before .before .before .before .before .before .before in
+    (omega (arith, first-at row .ends, start-of row .pre .0 .0), in-v (turned row), in-g (turned row))
 
 loop-less-2 : tie.Need-loop-less-2 Inv-loop μ-loop
-loop-less-2 c = fewer-left (turn (c .before .before .before .before .before .before .before .before .before .before .before .before .before .before .before .before .before .before .before .before .before .before)) (c .before .before .before .before .before .before .before .before .before .before .before .before .before .before .before .confirmed-row .result) (its (c .before .before .before .before .before .before .before .before .before .before .before .before .before .before .before)) (c .before .before .before .before .on2 .result) _ _ (λ t e. c .before .before .before .before .on2 .ensures t (c .before .before .before .before .before .before .before .before .before .before .before .before .before .before .before .before .before .before .before .before .before .before .before .before .before .before .before .before .before .before .args .file .now) (c .before .before .before .before .before .before .before .before .before .before .before .before .before .before .before .before .before .before .before .before .before .before .before .before .before .before .before .before .before .before .args .first) (ds (turn (c .before .before .before .before .before .before .before .before .before .before .before .before .before .before .before .before .before .before .before .before .before .before))) (r (turn (c .before .before .before .before .before .before .before .before .before .before .before .before .before .before .before .before .before .before .before .before .before .before))) (rs (turn (c .before .before .before .before .before .before .before .before .before .before .before .before .before .before .before .before .before .before .before .before .before .before))) (c .before .before .before .before .before .before .before .before .before .before .before .before .before .before .before .before .before .before .before .before .before .before .before .before .before .before .before .before .before .before .args .verdicts .now) (c .before .before .before .before .before .before .before .before .before .before .before .before .before .before .before .before .before .before .before .before .before .before .before .before .before .before .before .before .before .before .args .findings .now) (gone (turn (c .before .before .before .before .before .before .before .before .before .before .before .before .before .before .before .before .before .before .before .before .before .before)) t e) (at-first (turn (c .before .before .before .before .before .before .before .before .before .before .before .before .before .before .before .before .before .before .before .before .before .before)) (c .before .before .before .before .before .before .before .before .before .before .before .before .before .before .before .confirmed-row .result) (its (c .before .before .before .before .before .before .before .before .before .before .before .before .before .before .before))) (detail-is (turn (c .before .before .before .before .before .before .before .before .before .before .before .before .before .before .before .before .before .before .before .before .before .before)) (c .before .before .before .before .before .before .before .before .before .before .before .before .before .before .before .confirmed-row .result) (its (c .before .before .before .before .before .before .before .before .before .before .before .before .before .before .before)) (c .before .before .before .before .before .before .before .before .before .before .before .before .before .if1 .left)) (subst (λ (b : Bytes). Stepped t (ds (turn (c .before .before .before .before .before .before .before .before .before .before .before .before .before .before .before .before .before .before .before .before .before .before))) b (c .before .before .before .before .before .before .before .other .result)) (lent (c .before .before .before .before .before .before .before .before .before .before .before .before)) (c .before .before .before .before .before .before .before .other .ensures t (ds (turn (c .before .before .before .before .before .before .before .before .before .before .before .before .before .before .before .before .before .before .before .before .before .before))) (known (turn (c .before .before .before .before .before .before .before .before .before .before .before .before .before .before .before .before .before .before .before .before .before .before))))))
+loop-less-2 c =
+    let on = c .before .before .before .before in
+    let other = c .before .before .before .before .before .before .before in
+    let size = other-size-of other in
+    let row = row-of size in
+    fewer-left (turned row) (its row) (on .on2 .result) _ _
+    (one-more (turned row) (its row) (size .before .if1 .left) (other .other .result) (on .on2 .result) _ _ (on .on2 .ensures)
+    (λ tables e. stepped-2 other tables))
 
 loop-again-2 : tie.Need-loop-again-2 Inv-loop μ-loop
-loop-again-2 c = going-on (turn (c .before .before .before .before .before .before .before .before .before .before .before .before .before .before .before .before .before .before .before .before .before .before)) (c .before .before .before .before .before .before .before .before .before .before .before .before .before .before .before .confirmed-row .result) (its (c .before .before .before .before .before .before .before .before .before .before .before .before .before .before .before)) (c .before .before .before .before .before .before .before .before .before .before .before .before .before .if1 .left) (turn (c .before .before .before .before .before .before .before .before .before .before .before .before .before .before .before .before .before .before .before .before .before .before) .chains) (c .before .before .before .before .on2 .result) _ _ (no-publisher (turn (c .before .before .before .before .before .before .before .before .before .before .before .before .before .before .before .before .before .before .before .before .before .before) .chains) (ds (turn (c .before .before .before .before .before .before .before .before .before .before .before .before .before .before .before .before .before .before .before .before .before .before))) (r (turn (c .before .before .before .before .before .before .before .before .before .before .before .before .before .before .before .before .before .before .before .before .before .before))) (tallied (turn (c .before .before .before .before .before .before .before .before .before .before .before .before .before .before .before .before .before .before .before .before .before .before))) (not-publisher (c .before .before .before .before .before .before .before .before .before .before .before .before .before .before .before .confirmed-row .result) (r (turn (c .before .before .before .before .before .before .before .before .before .before .before .before .before .before .before .before .before .before .before .before .before .before))) (at-first (turn (c .before .before .before .before .before .before .before .before .before .before .before .before .before .before .before .before .before .before .before .before .before .before)) (c .before .before .before .before .before .before .before .before .before .before .before .before .before .before .before .confirmed-row .result) (its (c .before .before .before .before .before .before .before .before .before .before .before .before .before .before .before)) .own) (c .before .before .before .before .before .before .before .before .if2 .left))) (λ t e. c .before .before .before .before .on2 .ensures t (c .before .before .before .before .before .before .before .before .before .before .before .before .before .before .before .before .before .before .before .before .before .before .before .before .before .before .before .before .before .before .args .file .now) (c .before .before .before .before .before .before .before .before .before .before .before .before .before .before .before .before .before .before .before .before .before .before .before .before .before .before .before .before .before .before .args .first) (ds (turn (c .before .before .before .before .before .before .before .before .before .before .before .before .before .before .before .before .before .before .before .before .before .before))) (r (turn (c .before .before .before .before .before .before .before .before .before .before .before .before .before .before .before .before .before .before .before .before .before .before))) (rs (turn (c .before .before .before .before .before .before .before .before .before .before .before .before .before .before .before .before .before .before .before .before .before .before))) (c .before .before .before .before .before .before .before .before .before .before .before .before .before .before .before .before .before .before .before .before .before .before .before .before .before .before .before .before .before .before .args .verdicts .now) (c .before .before .before .before .before .before .before .before .before .before .before .before .before .before .before .before .before .before .before .before .before .before .before .before .before .before .before .before .before .before .args .findings .now) (gone (turn (c .before .before .before .before .before .before .before .before .before .before .before .before .before .before .before .before .before .before .before .before .before .before)) t e) (at-first (turn (c .before .before .before .before .before .before .before .before .before .before .before .before .before .before .before .before .before .before .before .before .before .before)) (c .before .before .before .before .before .before .before .before .before .before .before .before .before .before .before .confirmed-row .result) (its (c .before .before .before .before .before .before .before .before .before .before .before .before .before .before .before))) (detail-is (turn (c .before .before .before .before .before .before .before .before .before .before .before .before .before .before .before .before .before .before .before .before .before .before)) (c .before .before .before .before .before .before .before .before .before .before .before .before .before .before .before .confirmed-row .result) (its (c .before .before .before .before .before .before .before .before .before .before .before .before .before .before .before)) (c .before .before .before .before .before .before .before .before .before .before .before .before .before .if1 .left)) (subst (λ (b : Bytes). Stepped t (ds (turn (c .before .before .before .before .before .before .before .before .before .before .before .before .before .before .before .before .before .before .before .before .before .before))) b (c .before .before .before .before .before .before .before .other .result)) (lent (c .before .before .before .before .before .before .before .before .before .before .before .before)) (c .before .before .before .before .before .before .before .other .ensures t (ds (turn (c .before .before .before .before .before .before .before .before .before .before .before .before .before .before .before .before .before .before .before .before .before .before))) (known (turn (c .before .before .before .before .before .before .before .before .before .before .before .before .before .before .before .before .before .before .before .before .before .before))))))
+loop-again-2 c =
+    let on = c .before .before .before .before in
+    let other = c .before .before .before .before .before .before .before in
+    let size = other-size-of other in
+    let row = row-of size in
+    let here = turned row in
+    let is-detail = size .before .if1 .left in
+    going-on here (its row) is-detail (here .chains) (on .on2 .result) _ _
+    (no-publisher (here .chains) (ds here) (r here) (tallied here)
+    (not-publisher (row .confirmed-row .result) (r here) (first-at row .own) (c .before .before .before .before .before .before .before .before .if2 .left)))
+    (one-more here (its row) is-detail (other .other .result) (on .on2 .result) _ _ (on .on2 .ensures) (λ tables e. stepped-2 other tables))
 
 pub judge-details-spec : {M : Type 1} → statement M
 judge-details-spec =
