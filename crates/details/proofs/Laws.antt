@@ -31,7 +31,7 @@ use Rattle.edits.specs.Kinds.{Publisher as IsPublisher, Writer, Version, Perfor
 use Rattle.edits.specs.Before.{sequenceOf}
 use Rattle.edits.specs.Judged.{Judged}
 use Rattle.edits.proofs.Before.{sequence-below}
-use Rattle.edits.proofs.Own.{NoHeader, No24, NoPublisher, NoWriter, No43, NoRecording, nothing, nothing-worst}
+use Rattle.edits.proofs.Own.{own-none}
 use Rattle.details.specs.declared.Publisher.{Publisher}
 use Rattle.details.specs.Stepped.{Reads}
 
@@ -141,13 +141,24 @@ module _ (kind : Row) (r : Bytes) (its : kind ≡ rowFor (take 3 r)) where
       → Judged tables ds r f
   unfolding sortOf rows22
   none-found tables ds f s l d n2 n3 n4 n5 n6 n7 n9 =
-      let hd : NoHeader r = record { nwr = not-header "NWR" d refl; rev = not-header "REV" d refl } in
-      let m : No24 r = record { ter = not-type "TER" 9 refl n9; ipa = not-type "IPA" 9 refl n9; npa = not-type "NPA" 9 refl n9; msg = not-type "MSG" 9 refl n9 } in
-      let p : NoPublisher r = record { spu = not-type "SPU" 2 refl n2; opu = not-type "OPU" 2 refl n2 } in
-      let w : NoWriter r = record { swr = not-type "SWR" 3 refl n3; owr = not-type "OWR" 3 refl n3 } in
-      let v : No43 r = record { ewt = not-type "EWT" 4 refl n4; ver = not-type "VER" 5 refl n5; per = not-type "PER" 6 refl n6 } in
-      let c : NoRecording r = record { rec = not-type "REC" 7 refl n7 } in
-      record { set = s ∙ sym (nothing tables ds r hd m p w v c); level = l ∙ sym (nothing-worst tables ds r hd m p w v c) }
+      own-none tables ds r
+      (not-header "NWR" d refl)
+      (not-header "REV" d refl)
+      (not-type "TER" 9 refl n9)
+      (not-type "IPA" 9 refl n9)
+      (not-type "NPA" 9 refl n9)
+      (not-type "MSG" 9 refl n9)
+      (not-type "SPU" 2 refl n2)
+      (not-type "OPU" 2 refl n2)
+      (not-type "SWR" 3 refl n3)
+      (not-type "OWR" 3 refl n3)
+      (not-type "EWT" 4 refl n4)
+      (not-type "VER" 5 refl n5)
+      (not-type "PER" 6 refl n6)
+      (not-type "REC" 7 refl n7)
+      f
+      s
+      l
 
   -- ---- lengths
 

@@ -1,8 +1,10 @@
 -- The own findings of each kind of record: the others do not hold. Assumes nothing.
-use mathlib.Core.Path.{_≡_, refl, ap}
-use mathlib.Core.Bool.{true, false, _||_}
-use mathlib.Core.List.{List, _∷_, _++_}
-use lib.ListN.{replicate, take}
+use Prim.Native.Nat.{ℕ, _-_}
+use Prim.Native.String.{String}
+use mathlib.Core.Path.{_≡_, refl, sym, ap, _∙_}
+use mathlib.Core.Bool.{Bool, true, false, _||_}
+use mathlib.Core.List.{List, [], _∷_, _++_}
+use lib.ListN.{length, replicate, take}
 use Rattle.format.specs.Ascii.{ascii}
 use Rattle.format.specs.Bytes.{Bytes, sameBytes}
 use Rattle.rules.specs.Tables.{Tables}
@@ -11,170 +13,235 @@ use Rattle.rules.specs.Header.{is16, is17, is18, is19, is20, is21, is22, is23}
 use Rattle.rules.specs.Publisher.{is25, is26, is27, is28, is29, is30, is31, is32, is33, is34, is35, is36, is37}
 use Rattle.rules.specs.Writer.{is38, is39, is40, is41, is42}
 use Rattle.rules.specs.Other.{is24, is43, is44, is45, is46}
-use Rattle.rules.specs.Findings.{fieldFindings, ownFindings, setOf, level, worst}
+use Rattle.rules.specs.Findings.{fieldFindings, ownFindings, setOf, worst}
 use Rattle.format.proofs.Tests.{by-cases}
+use Rattle.findings.proofs.Laws.{set-padded, worst-padded}
+use Rattle.edits.specs.declared.Found.{Found}
+use Rattle.edits.specs.Judged.{Judged}
 use Rattle.edits.proofs.Types.{not-other, not-third, or-right}
 
--- ---- what a record is not
+-- ---- one type rules out the others
 
-pub record NoHeader (r : Bytes) : Type 0 where
-  pub nwr : isType "NWR" r ≡ false
-  pub rev : isType "REV" r ≡ false
+-- a record of one type, of one of two, of one of those of finding 24
+module _ (r : Bytes) where
+  of-one : (t : String) → isType t r ≡ true → (u : String) → sameBytes (ascii u) (ascii t) ≡ false → isType u r ≡ false
+  of-one t h u = not-other (ascii t) (ascii u) (take 3 r) h
 
-pub record NoPublisher (r : Bytes) : Type 0 where
-  pub spu : isType "SPU" r ≡ false
-  pub opu : isType "OPU" r ≡ false
+  of-two : (s t : String) → (isType s r || isType t r) ≡ true
+      → (u : String) → sameBytes (ascii u) (ascii s) ≡ false → sameBytes (ascii u) (ascii t) ≡ false → isType u r ≡ false
+  of-two s t h u = not-third (ascii s) (ascii t) (take 3 r) h (ascii u)
 
-pub record NoWriter (r : Bytes) : Type 0 where
-  pub swr : isType "SWR" r ≡ false
-  pub owr : isType "OWR" r ≡ false
+  of-four : is24 r ≡ true → (u : String)
+      → sameBytes (ascii u) (ascii "TER") ≡ false
+      → sameBytes (ascii u) (ascii "IPA") ≡ false
+      → sameBytes (ascii u) (ascii "NPA") ≡ false
+      → sameBytes (ascii u) (ascii "MSG") ≡ false
+      → isType u r ≡ false
+  unfolding is24
+  of-four h u a b c d =
+      by-cases (isType "MSG" r)
+      (λ y. of-one "MSG" y u d)
+      (λ n.
+      let three = or-right (isType "TER" r || isType "IPA" r || isType "NPA" r) (isType "MSG" r) h n in
+      by-cases (isType "NPA" r)
+      (λ y. of-one "NPA" y u c)
+      (λ m. of-two "TER" "IPA" (or-right (isType "TER" r || isType "IPA" r) (isType "NPA" r) three m) u a b))
 
-pub record No24 (r : Bytes) : Type 0 where
-  pub ter : isType "TER" r ≡ false
-  pub ipa : isType "IPA" r ≡ false
-  pub npa : isType "NPA" r ≡ false
-  pub msg : isType "MSG" r ≡ false
+-- ---- a list of findings by the kinds of records that may have them
 
-pub record No43 (r : Bytes) : Type 0 where
-  pub ewt : isType "EWT" r ≡ false
-  pub ver : isType "VER" r ≡ false
-  pub per : isType "PER" r ≡ false
+-- how many findings there are after these: only here is it said how many there are in all
+abbrev after : List Bool → ℕ
+after bs = 47 - length bs
 
-pub record NoRecording (r : Bytes) : Type 0 where
-  pub rec : isType "REC" r ≡ false
+-- these findings from 0 on, and none of those after them
+abbrev upToLast : List Bool → List Bool
+upToLast bs = bs ++ replicate (after bs) false
 
--- ---- and so what it does not have
+-- a header's findings, finding 24, a publisher's, a writer's, finding 43 and a recording's, in the order of their numbers
+abbrev inOrder : List Bool → List Bool → List Bool → List Bool → List Bool → List Bool → List Bool
+inOrder hs d ps ws v cs = replicate 16 false ++ (hs ++ (d ++ (ps ++ (ws ++ (v ++ cs)))))
 
-not-fifth : (r : Bytes) → is24 r ≡ true → (u : Bytes) → sameBytes u (ascii "TER") ≡ false → sameBytes u (ascii "IPA") ≡ false → sameBytes u (ascii "NPA") ≡ false → sameBytes u (ascii "MSG") ≡ false
-    → sameBytes u (take 3 r) ≡ false
-unfolding is24
-not-fifth r h u a b c d =
-    by-cases (isType "MSG" r)
-    (λ y. not-other (ascii "MSG") u (take 3 r) y d)
-    (λ n. by-cases (isType "NPA" r)
-    (λ y. not-other (ascii "NPA") u (take 3 r) y c)
-    (λ m. not-third (ascii "TER") (ascii "IPA") (take 3 r) (or-right (isType "TER" r || isType "IPA" r) (isType "NPA" r) (or-right (isType "TER" r || isType "IPA" r || isType "NPA" r) (isType "MSG" r) h n) m) u a b))
+same-order : (hs1 hs2 d1 d2 ps1 ps2 ws1 ws2 v1 v2 cs1 cs2 : List Bool)
+    → hs1 ≡ hs2 → d1 ≡ d2 → ps1 ≡ ps2 → ws1 ≡ ws2 → v1 ≡ v2 → cs1 ≡ cs2
+    → inOrder hs1 d1 ps1 ws1 v1 cs1 ≡ inOrder hs2 d2 ps2 ws2 v2 cs2
+same-order hs1 hs2 d1 d2 ps1 ps2 ws1 ws2 v1 v2 cs1 cs2 e1 e2 e3 e4 e5 e6 = rw (e1, e2, e3, e4, e5, e6)
 
 module _ (tables : Tables) (before : List Bytes) (r : Bytes) where
-  pub no-header : NoHeader r → (is16 r ≡ false) × (is17 tables r ≡ false) × (is18 r ≡ false) × (is19 r ≡ false) × (is20 r ≡ false) × (is21 tables r ≡ false) × (is22 r ≡ false) × (is23 r ≡ false)
+  -- ---- the findings of each kind
+
+  abbrev pub ofHeader : List Bool
+  ofHeader = is16 r ∷ is17 tables r ∷ is18 r ∷ is19 r ∷ is20 r ∷ is21 tables r ∷ is22 r ∷ is23 r ∷ []
+
+  abbrev pub of24 : List Bool
+  of24 = is24 r ∷ []
+
+  abbrev pub ofPublisher : List Bool
+  ofPublisher =
+      is25 before r
+      ∷ is26 r
+      ∷ is27 r
+      ∷ is28 r
+      ∷ is29 r
+      ∷ is30 r
+      ∷ is31 r
+      ∷ is32 before r
+      ∷ is33 r
+      ∷ is34 r
+      ∷ is35 r
+      ∷ is36 tables r
+      ∷ is37 r
+      ∷ []
+
+  abbrev pub ofWriter : List Bool
+  ofWriter = is38 r ∷ is39 r ∷ is40 r ∷ is41 r ∷ is42 r ∷ []
+
+  abbrev pub of43 : List Bool
+  of43 = is43 r ∷ []
+
+  abbrev pub ofRecording : List Bool
+  ofRecording = is44 r ∷ is45 r ∷ is46 r ∷ []
+
+  no-header : isType "NWR" r ≡ false → isType "REV" r ≡ false → ofHeader ≡ replicate 8 false
   unfolding is16 is17 is18 is19 is20 is21 is22 is23
-  no-header n =
-      (rw (n .nwr, n .rev), rw (n .nwr, n .rev), rw (n .nwr, n .rev), rw (n .nwr, n .rev), rw (n .nwr, n .rev), rw (n .nwr, n .rev), rw (n .nwr, n .rev), rw (n .nwr, n .rev))
+  no-header nwr rev = rw (nwr, rev)
 
-  pub no-publisher : NoPublisher r
-      → (is25 before r ≡ false) × (is26 r ≡ false) × (is27 r ≡ false) × (is28 r ≡ false) × (is29 r ≡ false) × (is30 r ≡ false) × (is31 r ≡ false) × (is32 before r ≡ false) × (is33 r ≡ false) × (is34 r ≡ false) × (is35 r ≡ false) × (is36 tables r ≡ false) × (is37 r ≡ false)
-  unfolding is25 is26 is27 is28 is29 is30 is31 is32 is33 is34 is35 is36 is37
-  no-publisher n =
-      (rw (n .spu, n .opu), rw (n .spu), rw (n .spu, n .opu), rw (n .spu), rw (n .spu), rw (n .spu, n .opu), rw (n .spu, n .opu), rw (n .spu), rw (n .opu), rw (n .opu), rw (n .opu), rw (n .spu, n .opu), rw (n .spu, n .opu))
-
-  pub no-writer : NoWriter r → (is38 r ≡ false) × (is39 r ≡ false) × (is40 r ≡ false) × (is41 r ≡ false) × (is42 r ≡ false)
-  unfolding is38 is39 is40 is41 is42
-  no-writer n = (rw (n .swr), rw (n .swr), rw (n .owr), rw (n .swr, n .owr), rw (n .swr))
-
-  pub no-24 : No24 r → is24 r ≡ false
+  no-24 : isType "TER" r ≡ false → isType "IPA" r ≡ false → isType "NPA" r ≡ false → isType "MSG" r ≡ false → of24 ≡ replicate 1 false
   unfolding is24
-  no-24 n = rw (n .ter, n .ipa, n .npa, n .msg)
+  no-24 ter ipa npa msg = rw (ter, ipa, npa, msg)
 
-  pub no-43 : No43 r → is43 r ≡ false
+  no-publisher : isType "SPU" r ≡ false → isType "OPU" r ≡ false → ofPublisher ≡ replicate 13 false
+  unfolding is25 is26 is27 is28 is29 is30 is31 is32 is33 is34 is35 is36 is37
+  no-publisher spu opu = rw (spu, opu)
+
+  no-writer : isType "SWR" r ≡ false → isType "OWR" r ≡ false → ofWriter ≡ replicate 5 false
+  unfolding is38 is39 is40 is41 is42
+  no-writer swr owr = rw (swr, owr)
+
+  no-43 : isType "EWT" r ≡ false → isType "VER" r ≡ false → isType "PER" r ≡ false → of43 ≡ replicate 1 false
   unfolding is43
-  no-43 n = rw (n .ewt, n .ver, n .per)
+  no-43 ewt ver per = rw (ewt, ver, per)
 
-  pub no-recording : NoRecording r → (is44 r ≡ false) × (is45 r ≡ false) × (is46 r ≡ false)
+  no-recording : isType "REC" r ≡ false → ofRecording ≡ replicate 3 false
   unfolding is44 is45 is46
-  no-recording n = (rw (n .rec), rw (n .rec), rw (n .rec))
+  no-recording rec = rw rec
 
-  -- ---- the findings that it may have
+  -- ---- and so those of a record, whose kind may have some of them and has none of the others
 
-  pub own-header : isHeader r ≡ true → ownFindings tables before r ≡ replicate 16 false ++ is16 r ∷ is17 tables r ∷ is18 r ∷ is19 r ∷ is20 r ∷ is21 tables r ∷ is22 r ∷ is23 r ∷ replicate 23 false
+  all-kinds : {hs d ps ws v cs : List Bool}
+      → ofHeader ≡ hs → of24 ≡ d → ofPublisher ≡ ps → ofWriter ≡ ws → of43 ≡ v → ofRecording ≡ cs
+      → ownFindings tables before r ≡ inOrder hs d ps ws v cs
   unfolding fieldFindings ownFindings
+  all-kinds {hs} {d} {ps} {ws} {v} {cs} = same-order ofHeader hs of24 d ofPublisher ps ofWriter ws of43 v ofRecording cs
+
+  -- so a record is judged by whoever knows the findings of its kind, the first of which is number n
+  abbrev JudgedBy : ℕ → List Bool → Type 0
+  JudgedBy n kind =
+      (bs : List Bool) (f : Found) → bs ≡ kind → f .set ≡ setOf (replicate n false ++ bs) → f .level ≡ worst (replicate n false ++ bs)
+      → Judged tables before r f
+
+  judged-by : (n : ℕ) (kind : List Bool) → ownFindings tables before r ≡ upToLast (replicate n false ++ kind) → JudgedBy n kind
+  judged-by n kind all bs f found set level =
+      let own = replicate n false ++ kind in
+      let same = ap (λ (x : List Bool). replicate n false ++ x) found in
+      record {
+        set = set ∙ ap setOf same ∙ sym (ap setOf all ∙ set-padded own (after own));
+        level = level ∙ ap worst same ∙ sym (ap worst all ∙ worst-padded own (after own));
+      }
+
+  pub own-header : isHeader r ≡ true → JudgedBy 16 ofHeader
   own-header h =
-      let n = not-third (ascii "NWR") (ascii "REV") (take 3 r) h in
-      let d = no-24 (record { ter = n (ascii "TER") refl refl; ipa = n (ascii "IPA") refl refl; npa = n (ascii "NPA") refl refl; msg = n (ascii "MSG") refl refl }) in
-      let p = no-publisher (record { spu = n (ascii "SPU") refl refl; opu = n (ascii "OPU") refl refl }) in
-      let w = no-writer (record { swr = n (ascii "SWR") refl refl; owr = n (ascii "OWR") refl refl }) in
-      let v = no-43 (record { ewt = n (ascii "EWT") refl refl; ver = n (ascii "VER") refl refl; per = n (ascii "PER") refl refl }) in
-      let c = no-recording (record { rec = n (ascii "REC") refl refl }) in
-      rw (d, p .0, p .1, p .2, p .3, p .4, p .5, p .6, p .7, p .8, p .9, p .10, p .11, p .12, w .0, w .1, w .2, w .3, w .4, v, c .0, c .1, c .2)
+      let no = of-two r "NWR" "REV" h in
+      judged-by 16 ofHeader
+      (all-kinds
+      refl
+      (no-24 (no "TER" refl refl) (no "IPA" refl refl) (no "NPA" refl refl) (no "MSG" refl refl))
+      (no-publisher (no "SPU" refl refl) (no "OPU" refl refl))
+      (no-writer (no "SWR" refl refl) (no "OWR" refl refl))
+      (no-43 (no "EWT" refl refl) (no "VER" refl refl) (no "PER" refl refl))
+      (no-recording (no "REC" refl refl)))
 
-  pub own-publisher : isPublisher r ≡ true → ownFindings tables before r ≡ replicate 25 false ++ is25 before r ∷ is26 r ∷ is27 r ∷ is28 r ∷ is29 r ∷ is30 r ∷ is31 r ∷ is32 before r ∷ is33 r ∷ is34 r ∷ is35 r ∷ is36 tables r ∷ is37 r ∷ replicate 9 false
-  unfolding fieldFindings ownFindings
-  own-publisher h =
-      let n = not-third (ascii "SPU") (ascii "OPU") (take 3 r) h in
-      let hd = no-header (record { nwr = n (ascii "NWR") refl refl; rev = n (ascii "REV") refl refl }) in
-      let d = no-24 (record { ter = n (ascii "TER") refl refl; ipa = n (ascii "IPA") refl refl; npa = n (ascii "NPA") refl refl; msg = n (ascii "MSG") refl refl }) in
-      let w = no-writer (record { swr = n (ascii "SWR") refl refl; owr = n (ascii "OWR") refl refl }) in
-      let v = no-43 (record { ewt = n (ascii "EWT") refl refl; ver = n (ascii "VER") refl refl; per = n (ascii "PER") refl refl }) in
-      let c = no-recording (record { rec = n (ascii "REC") refl refl }) in
-      rw (hd .0, hd .1, hd .2, hd .3, hd .4, hd .5, hd .6, hd .7, d, w .0, w .1, w .2, w .3, w .4, v, c .0, c .1, c .2)
-
-  pub own-writer : isWriter r ≡ true → ownFindings tables before r ≡ replicate 38 false ++ is38 r ∷ is39 r ∷ is40 r ∷ is41 r ∷ is42 r ∷ replicate 4 false
-  unfolding fieldFindings ownFindings
-  own-writer h =
-      let n = not-third (ascii "SWR") (ascii "OWR") (take 3 r) h in
-      let hd = no-header (record { nwr = n (ascii "NWR") refl refl; rev = n (ascii "REV") refl refl }) in
-      let d = no-24 (record { ter = n (ascii "TER") refl refl; ipa = n (ascii "IPA") refl refl; npa = n (ascii "NPA") refl refl; msg = n (ascii "MSG") refl refl }) in
-      let p = no-publisher (record { spu = n (ascii "SPU") refl refl; opu = n (ascii "OPU") refl refl }) in
-      let v = no-43 (record { ewt = n (ascii "EWT") refl refl; ver = n (ascii "VER") refl refl; per = n (ascii "PER") refl refl }) in
-      let c = no-recording (record { rec = n (ascii "REC") refl refl }) in
-      rw (hd .0, hd .1, hd .2, hd .3, hd .4, hd .5, hd .6, hd .7, d, p .0, p .1, p .2, p .3, p .4, p .5, p .6, p .7, p .8, p .9, p .10, p .11, p .12, v, c .0, c .1, c .2)
-
-  pub own-version : (isType "EWT" r || isType "VER" r) ≡ true → ownFindings tables before r ≡ replicate 43 false ++ is43 r ∷ replicate 3 false
-  unfolding fieldFindings ownFindings
-  own-version h =
-      let n = not-third (ascii "EWT") (ascii "VER") (take 3 r) h in
-      let hd = no-header (record { nwr = n (ascii "NWR") refl refl; rev = n (ascii "REV") refl refl }) in
-      let d = no-24 (record { ter = n (ascii "TER") refl refl; ipa = n (ascii "IPA") refl refl; npa = n (ascii "NPA") refl refl; msg = n (ascii "MSG") refl refl }) in
-      let p = no-publisher (record { spu = n (ascii "SPU") refl refl; opu = n (ascii "OPU") refl refl }) in
-      let w = no-writer (record { swr = n (ascii "SWR") refl refl; owr = n (ascii "OWR") refl refl }) in
-      let c = no-recording (record { rec = n (ascii "REC") refl refl }) in
-      rw (hd .0, hd .1, hd .2, hd .3, hd .4, hd .5, hd .6, hd .7, d, p .0, p .1, p .2, p .3, p .4, p .5, p .6, p .7, p .8, p .9, p .10, p .11, p .12, w .0, w .1, w .2, w .3, w .4, c .0, c .1, c .2)
-
-  pub own-performer : isType "PER" r ≡ true → ownFindings tables before r ≡ replicate 43 false ++ is43 r ∷ replicate 3 false
-  unfolding fieldFindings ownFindings
-  own-performer h =
-      let hd = no-header (record { nwr = not-other (ascii "PER") (ascii "NWR") (take 3 r) h refl; rev = not-other (ascii "PER") (ascii "REV") (take 3 r) h refl }) in
-      let d = no-24 (record { ter = not-other (ascii "PER") (ascii "TER") (take 3 r) h refl; ipa = not-other (ascii "PER") (ascii "IPA") (take 3 r) h refl; npa = not-other (ascii "PER") (ascii "NPA") (take 3 r) h refl; msg = not-other (ascii "PER") (ascii "MSG") (take 3 r) h refl }) in
-      let p = no-publisher (record { spu = not-other (ascii "PER") (ascii "SPU") (take 3 r) h refl; opu = not-other (ascii "PER") (ascii "OPU") (take 3 r) h refl }) in
-      let w = no-writer (record { swr = not-other (ascii "PER") (ascii "SWR") (take 3 r) h refl; owr = not-other (ascii "PER") (ascii "OWR") (take 3 r) h refl }) in
-      let c = no-recording (record { rec = not-other (ascii "PER") (ascii "REC") (take 3 r) h refl }) in
-      rw (hd .0, hd .1, hd .2, hd .3, hd .4, hd .5, hd .6, hd .7, d, p .0, p .1, p .2, p .3, p .4, p .5, p .6, p .7, p .8, p .9, p .10, p .11, p .12, w .0, w .1, w .2, w .3, w .4, c .0, c .1, c .2)
-
-  pub own-recording : isType "REC" r ≡ true → ownFindings tables before r ≡ replicate 44 false ++ is44 r ∷ is45 r ∷ is46 r ∷ replicate 0 false
-  unfolding fieldFindings ownFindings
-  own-recording h =
-      let hd = no-header (record { nwr = not-other (ascii "REC") (ascii "NWR") (take 3 r) h refl; rev = not-other (ascii "REC") (ascii "REV") (take 3 r) h refl }) in
-      let d = no-24 (record { ter = not-other (ascii "REC") (ascii "TER") (take 3 r) h refl; ipa = not-other (ascii "REC") (ascii "IPA") (take 3 r) h refl; npa = not-other (ascii "REC") (ascii "NPA") (take 3 r) h refl; msg = not-other (ascii "REC") (ascii "MSG") (take 3 r) h refl }) in
-      let p = no-publisher (record { spu = not-other (ascii "REC") (ascii "SPU") (take 3 r) h refl; opu = not-other (ascii "REC") (ascii "OPU") (take 3 r) h refl }) in
-      let w = no-writer (record { swr = not-other (ascii "REC") (ascii "SWR") (take 3 r) h refl; owr = not-other (ascii "REC") (ascii "OWR") (take 3 r) h refl }) in
-      let v = no-43 (record { ewt = not-other (ascii "REC") (ascii "EWT") (take 3 r) h refl; ver = not-other (ascii "REC") (ascii "VER") (take 3 r) h refl; per = not-other (ascii "REC") (ascii "PER") (take 3 r) h refl }) in
-      rw (hd .0, hd .1, hd .2, hd .3, hd .4, hd .5, hd .6, hd .7, d, p .0, p .1, p .2, p .3, p .4, p .5, p .6, p .7, p .8, p .9, p .10, p .11, p .12, w .0, w .1, w .2, w .3, w .4, v)
-
-  pub own-24 : is24 r ≡ true → ownFindings tables before r ≡ replicate 24 false ++ is24 r ∷ replicate 22 false
-  unfolding fieldFindings ownFindings
+  pub own-24 : is24 r ≡ true → JudgedBy 24 of24
   own-24 h =
-      let n = not-fifth r h in
-      let hd = no-header (record { nwr = n (ascii "NWR") refl refl refl refl; rev = n (ascii "REV") refl refl refl refl }) in
-      let p = no-publisher (record { spu = n (ascii "SPU") refl refl refl refl; opu = n (ascii "OPU") refl refl refl refl }) in
-      let w = no-writer (record { swr = n (ascii "SWR") refl refl refl refl; owr = n (ascii "OWR") refl refl refl refl }) in
-      let v = no-43 (record { ewt = n (ascii "EWT") refl refl refl refl; ver = n (ascii "VER") refl refl refl refl; per = n (ascii "PER") refl refl refl refl }) in
-      let c = no-recording (record { rec = n (ascii "REC") refl refl refl refl }) in
-      rw (hd .0, hd .1, hd .2, hd .3, hd .4, hd .5, hd .6, hd .7, p .0, p .1, p .2, p .3, p .4, p .5, p .6, p .7, p .8, p .9, p .10, p .11, p .12, w .0, w .1, w .2, w .3, w .4, v, c .0, c .1, c .2)
+      let no = of-four r h in
+      judged-by 24 of24
+      (all-kinds
+      (no-header (no "NWR" refl refl refl refl) (no "REV" refl refl refl refl))
+      refl
+      (no-publisher (no "SPU" refl refl refl refl) (no "OPU" refl refl refl refl))
+      (no-writer (no "SWR" refl refl refl refl) (no "OWR" refl refl refl refl))
+      (no-43 (no "EWT" refl refl refl refl) (no "VER" refl refl refl refl) (no "PER" refl refl refl refl))
+      (no-recording (no "REC" refl refl refl refl)))
+
+  pub own-publisher : isPublisher r ≡ true → JudgedBy 25 ofPublisher
+  own-publisher h =
+      let no = of-two r "SPU" "OPU" h in
+      judged-by 25 ofPublisher
+      (all-kinds
+      (no-header (no "NWR" refl refl) (no "REV" refl refl))
+      (no-24 (no "TER" refl refl) (no "IPA" refl refl) (no "NPA" refl refl) (no "MSG" refl refl))
+      refl
+      (no-writer (no "SWR" refl refl) (no "OWR" refl refl))
+      (no-43 (no "EWT" refl refl) (no "VER" refl refl) (no "PER" refl refl))
+      (no-recording (no "REC" refl refl)))
+
+  pub own-writer : isWriter r ≡ true → JudgedBy 38 ofWriter
+  own-writer h =
+      let no = of-two r "SWR" "OWR" h in
+      judged-by 38 ofWriter
+      (all-kinds
+      (no-header (no "NWR" refl refl) (no "REV" refl refl))
+      (no-24 (no "TER" refl refl) (no "IPA" refl refl) (no "NPA" refl refl) (no "MSG" refl refl))
+      (no-publisher (no "SPU" refl refl) (no "OPU" refl refl))
+      refl
+      (no-43 (no "EWT" refl refl) (no "VER" refl refl) (no "PER" refl refl))
+      (no-recording (no "REC" refl refl)))
+
+  pub own-version : (isType "EWT" r || isType "VER" r) ≡ true → JudgedBy 43 of43
+  own-version h =
+      let no = of-two r "EWT" "VER" h in
+      judged-by 43 of43
+      (all-kinds
+      (no-header (no "NWR" refl refl) (no "REV" refl refl))
+      (no-24 (no "TER" refl refl) (no "IPA" refl refl) (no "NPA" refl refl) (no "MSG" refl refl))
+      (no-publisher (no "SPU" refl refl) (no "OPU" refl refl))
+      (no-writer (no "SWR" refl refl) (no "OWR" refl refl))
+      refl
+      (no-recording (no "REC" refl refl)))
+
+  pub own-performer : isType "PER" r ≡ true → JudgedBy 43 of43
+  own-performer h =
+      let no = of-one r "PER" h in
+      judged-by 43 of43
+      (all-kinds
+      (no-header (no "NWR" refl) (no "REV" refl))
+      (no-24 (no "TER" refl) (no "IPA" refl) (no "NPA" refl) (no "MSG" refl))
+      (no-publisher (no "SPU" refl) (no "OPU" refl))
+      (no-writer (no "SWR" refl) (no "OWR" refl))
+      refl
+      (no-recording (no "REC" refl)))
+
+  pub own-recording : isType "REC" r ≡ true → JudgedBy 44 ofRecording
+  own-recording h =
+      let no = of-one r "REC" h in
+      judged-by 44 ofRecording
+      (all-kinds
+      (no-header (no "NWR" refl) (no "REV" refl))
+      (no-24 (no "TER" refl) (no "IPA" refl) (no "NPA" refl) (no "MSG" refl))
+      (no-publisher (no "SPU" refl) (no "OPU" refl))
+      (no-writer (no "SWR" refl) (no "OWR" refl))
+      (no-43 (no "EWT" refl) (no "VER" refl) (no "PER" refl))
+      refl)
 
   -- a record of none of these types has none
-  module _ (hd : NoHeader r) (d : No24 r) (p : NoPublisher r) (w : NoWriter r) (v : No43 r) (c : NoRecording r) where
-    none : ownFindings tables before r ≡ replicate 47 false
-    unfolding fieldFindings ownFindings
-    none =
-        let hs = no-header hd in
-        let ps = no-publisher p in
-        let ws = no-writer w in
-        let cs = no-recording c in
-        rw (hs .0, hs .1, hs .2, hs .3, hs .4, hs .5, hs .6, hs .7, no-24 d, ps .0, ps .1, ps .2, ps .3, ps .4, ps .5, ps .6, ps .7, ps .8, ps .9, ps .10, ps .11, ps .12, ws .0, ws .1, ws .2, ws .3, ws .4, no-43 v, cs .0, cs .1, cs .2)
-
-    pub nothing : setOf (ownFindings tables before r) ≡ 0
-    unfolding setOf
-    nothing = ap setOf none
-
-    pub nothing-worst : worst (ownFindings tables before r) ≡ 0
-    unfolding worst level
-    nothing-worst = ap worst none
+  pub own-none : isType "NWR" r ≡ false → isType "REV" r ≡ false
+      → isType "TER" r ≡ false → isType "IPA" r ≡ false → isType "NPA" r ≡ false → isType "MSG" r ≡ false
+      → isType "SPU" r ≡ false → isType "OPU" r ≡ false
+      → isType "SWR" r ≡ false → isType "OWR" r ≡ false
+      → isType "EWT" r ≡ false → isType "VER" r ≡ false → isType "PER" r ≡ false
+      → isType "REC" r ≡ false
+      → (f : Found) → f .set ≡ 0 → f .level ≡ 0 → Judged tables before r f
+  unfolding setOf worst
+  own-none nwr rev ter ipa npa msg spu opu swr owr ewt ver per rec f set level =
+      judged-by 0 []
+      (all-kinds (no-header nwr rev) (no-24 ter ipa npa msg) (no-publisher spu opu) (no-writer swr owr) (no-43 ewt ver per) (no-recording rec))
+      [] f refl set level

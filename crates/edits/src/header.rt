@@ -1,7 +1,7 @@
 // NWR and REV.
 ghost use mathlib.Core.Path.{_≡_};
 ghost use mathlib.Core.Bool.{false};
-ghost use mathlib.Core.List.{List, _∷_, _++_};
+ghost use mathlib.Core.List.{List, [], _∷_, _++_};
 ghost use lib.ListN.{replicate};
 ghost use Rattle.format.specs.Bytes.{Bytes};
 ghost use Rattle.rules.specs.Tables.{Tables};
@@ -105,8 +105,8 @@ fn gather(
     b22: bool,
     b23: bool,
 ) -> Found
-    ensures { λ r. ⌜ r .set ≡ setOf (replicate 16 false ++ b16 ∷ b17 ∷ b18 ∷ b19 ∷ b20 ∷ b21 ∷ b22 ∷ b23 ∷ replicate 23 false) ⌝ }
-    ensures { λ r. ⌜ r .level ≡ worst (replicate 16 false ++ b16 ∷ b17 ∷ b18 ∷ b19 ∷ b20 ∷ b21 ∷ b22 ∷ b23 ∷ replicate 23 false) ⌝ }
+    ensures { λ r. ⌜ r .set ≡ setOf (replicate 16 false ++ b16 ∷ b17 ∷ b18 ∷ b19 ∷ b20 ∷ b21 ∷ b22 ∷ b23 ∷ []) ⌝ }
+    ensures { λ r. ⌜ r .level ≡ worst (replicate 16 false ++ b16 ∷ b17 ∷ b18 ∷ b19 ∷ b20 ∷ b21 ∷ b22 ∷ b23 ∷ []) ⌝ }
 {
     let set = findings::weigh(b16, 0x10000)
         + findings::weigh(b17, 0x20000)

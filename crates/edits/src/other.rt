@@ -25,8 +25,8 @@ pub fn misplaced() -> Found
 // ---- finding 43 alone
 
 fn nameless(b43: bool) -> Found
-    ensures { λ r. ⌜ r .set ≡ setOf (replicate 43 false ++ b43 ∷ replicate 3 false) ⌝ }
-    ensures { λ r. ⌜ r .level ≡ worst (replicate 43 false ++ b43 ∷ replicate 3 false) ⌝ }
+    ensures { λ r. ⌜ r .set ≡ setOf (replicate 43 false ++ b43 ∷ []) ⌝ }
+    ensures { λ r. ⌜ r .level ≡ worst (replicate 43 false ++ b43 ∷ []) ⌝ }
 {
     Found {
         set: findings::weigh(b43, 0x80000000000),

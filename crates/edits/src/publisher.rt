@@ -257,8 +257,8 @@ fn gather(
     b36: bool,
     b37: bool,
 ) -> Found
-    ensures { λ r. ⌜ r .set ≡ setOf (replicate 25 false ++ b25 ∷ b26 ∷ b27 ∷ b28 ∷ b29 ∷ b30 ∷ b31 ∷ b32 ∷ b33 ∷ b34 ∷ b35 ∷ b36 ∷ b37 ∷ replicate 9 false) ⌝ }
-    ensures { λ r. ⌜ r .level ≡ worst (replicate 25 false ++ b25 ∷ b26 ∷ b27 ∷ b28 ∷ b29 ∷ b30 ∷ b31 ∷ b32 ∷ b33 ∷ b34 ∷ b35 ∷ b36 ∷ b37 ∷ replicate 9 false) ⌝ }
+    ensures { λ r. ⌜ r .set ≡ setOf (replicate 25 false ++ b25 ∷ b26 ∷ b27 ∷ b28 ∷ b29 ∷ b30 ∷ b31 ∷ b32 ∷ b33 ∷ b34 ∷ b35 ∷ b36 ∷ b37 ∷ []) ⌝ }
+    ensures { λ r. ⌜ r .level ≡ worst (replicate 25 false ++ b25 ∷ b26 ∷ b27 ∷ b28 ∷ b29 ∷ b30 ∷ b31 ∷ b32 ∷ b33 ∷ b34 ∷ b35 ∷ b36 ∷ b37 ∷ []) ⌝ }
 {
     let set = findings::weigh(b25, 0x2000000)
         + findings::weigh(b26, 0x4000000)

@@ -1,7 +1,7 @@
 // SWR and OWR.
 ghost use mathlib.Core.Path.{_≡_};
 ghost use mathlib.Core.Bool.{false, not};
-ghost use mathlib.Core.List.{List, _∷_, _++_};
+ghost use mathlib.Core.List.{List, [], _∷_, _++_};
 ghost use lib.ListN.{replicate};
 ghost use Rattle.format.specs.Bytes.{Bytes};
 ghost use Rattle.rules.specs.Tables.{Tables, designations};
@@ -90,8 +90,8 @@ fn found_42(record: &[u8]) -> bool
 }
 
 fn gather(b38: bool, b39: bool, b40: bool, b41: bool, b42: bool) -> Found
-    ensures { λ r. ⌜ r .set ≡ setOf (replicate 38 false ++ b38 ∷ b39 ∷ b40 ∷ b41 ∷ b42 ∷ replicate 4 false) ⌝ }
-    ensures { λ r. ⌜ r .level ≡ worst (replicate 38 false ++ b38 ∷ b39 ∷ b40 ∷ b41 ∷ b42 ∷ replicate 4 false) ⌝ }
+    ensures { λ r. ⌜ r .set ≡ setOf (replicate 38 false ++ b38 ∷ b39 ∷ b40 ∷ b41 ∷ b42 ∷ []) ⌝ }
+    ensures { λ r. ⌜ r .level ≡ worst (replicate 38 false ++ b38 ∷ b39 ∷ b40 ∷ b41 ∷ b42 ∷ []) ⌝ }
 {
     let set = findings::weigh(b38, 0x4000000000)
         + findings::weigh(b39, 0x8000000000)

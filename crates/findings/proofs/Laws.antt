@@ -1,4 +1,5 @@
--- The bits of a number counted and searched, the set of a list read back, and eight bytes stored. Assumes nothing.
+-- The bits of a number counted and searched, the set of a list read back, findings that do not hold after a list, and eight bytes
+-- stored. Assumes nothing.
 use mathlib.Core.Path.{_≡_, refl, ap, _∙_}
 use mathlib.Core.Bool.{Bool, true, false, cond}
 use mathlib.Core.List.{List, [], _∷_, _++_, append-nil}
@@ -10,7 +11,7 @@ use lib.Count.{ones, trailingZeros, ones-step, under}
 use lib.ListN.{length, replicate, drop-of-length-le}
 use lib.Seq.{sets, sets-eq}
 use Rattle.format.specs.Bytes.{Bytes}
-use Rattle.rules.specs.Findings.{setOf, places, countOf, lowestOf, bytesOf}
+use Rattle.rules.specs.Findings.{setOf, places, countOf, lowestOf, bytesOf, verdictOf, level, larger, worstFrom, worst}
 
 -- ---- counted and searched, by the lowest bit and the others
 
@@ -83,6 +84,30 @@ module _ (bs : List Bool) (fits : length bs ≤ 64) where
 
   pub lowest-of-set : 0 < setOf bs → lowestOf (places 64 (setOf bs)) ≡ lowestOf bs
   lowest-of-set h = ap lowestOf (places-set 64 bs fits) ∙ lowest-padded bs (64 - length bs) h
+
+-- ---- findings after a list that do not hold change neither its set nor its largest verdict
+
+set-none : (k : ℕ) → setOf (replicate k false) ≡ 0
+unfolding setOf
+set-none zero = refl
+set-none (suc k) = omega (arith, set-none k)
+
+pub set-padded : (bs : List Bool) (k : ℕ) → setOf (bs ++ replicate k false) ≡ setOf bs
+unfolding setOf
+set-padded [] k = set-none k
+set-padded (b ∷ bs) k = ap (λ (s : ℕ). cond b 1 0 + 2 * s) (set-padded bs k)
+
+worst-none : (n k : ℕ) → worstFrom n (replicate k false) ≡ 0
+worst-none n zero = refl
+worst-none n (suc k) = ap (larger 0) (worst-none (suc n) k)
+
+worst-from-padded : (n : ℕ) (bs : List Bool) (k : ℕ) → worstFrom n (bs ++ replicate k false) ≡ worstFrom n bs
+worst-from-padded n [] k = worst-none n k
+worst-from-padded n (b ∷ bs) k = ap (larger (cond b (verdictOf (level n)) 0)) (worst-from-padded (suc n) bs k)
+
+pub worst-padded : (bs : List Bool) (k : ℕ) → worst (bs ++ replicate k false) ≡ worst bs
+unfolding worst
+worst-padded bs k = worst-from-padded 0 bs k
 
 -- ---- eight stores over eight bytes
 

@@ -3,7 +3,7 @@
 use native.Mathlib.Omega.{arith}
 use mathlib.Core.Path.{_≡_, refl, sym, _∙_}
 use mathlib.Core.Bool.{Bool, false, _||_, or-false}
-use mathlib.Core.List.{List, _∷_, _++_}
+use mathlib.Core.List.{List, [], _∷_, _++_}
 use lib.ListN.{replicate}
 use Rattle.rules.specs.Findings.{level}
 use Rattle.edits.proofs.Levels.{set-weighed, top, worst-top}
@@ -15,7 +15,7 @@ returns : tie.Need-returns
 unfolding level
 returns c =
     let g = c .before .before .before .before .before .before .before .before .before .args in
-    let bs : List Bool = replicate 16 false ++ g .b16 ∷ g .b17 ∷ g .b18 ∷ g .b19 ∷ g .b20 ∷ g .b21 ∷ g .b22 ∷ g .b23 ∷ replicate 23 false in
+    let bs : List Bool = replicate 16 false ++ g .b16 ∷ g .b17 ∷ g .b18 ∷ g .b19 ∷ g .b20 ∷ g .b21 ∷ g .b22 ∷ g .b23 ∷ [] in
     let e : top (g .b16 || (g .b17 || (g .b18 || (g .b21 || (g .b22 || false))))) false (g .b19 || (g .b20 || (g .b23 || false))) ≡ top (g .b16 || (g .b17 || (g .b18 || (g .b21 || g .b22)))) false (g .b19 || (g .b20 || g .b23)) = rw (or-false (g .b22), or-false (g .b23)) in
     (omega (arith, set-weighed bs), c .worst .ensures ∙ sym (worst-top bs refl ∙ e))
 

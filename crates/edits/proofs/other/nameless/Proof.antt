@@ -3,7 +3,7 @@
 use native.Mathlib.Omega.{arith}
 use mathlib.Core.Path.{_≡_, refl, sym, _∙_}
 use mathlib.Core.Bool.{Bool, false, _||_, or-false}
-use mathlib.Core.List.{List, _∷_, _++_}
+use mathlib.Core.List.{List, [], _∷_, _++_}
 use lib.ListN.{replicate}
 use Rattle.rules.specs.Findings.{level}
 use Rattle.edits.proofs.Levels.{set-weighed, top, worst-top}
@@ -15,7 +15,7 @@ returns : tie.Need-returns
 unfolding level
 returns c =
     let g = c .before .before .args in
-    let bs : List Bool = replicate 43 false ++ g .b43 ∷ replicate 3 false in
+    let bs : List Bool = replicate 43 false ++ g .b43 ∷ [] in
     let e : top false (g .b43 || false) false ≡ top false (g .b43) false = rw (or-false (g .b43)) in
     (omega (arith, set-weighed bs), c .worst .ensures ∙ sym (worst-top bs refl ∙ e))
 

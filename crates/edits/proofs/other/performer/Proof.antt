@@ -9,13 +9,11 @@ use Rattle.edits.proofs.other.performer.Statement.{statement}
 use Rattle.edits.proofs.other.performer.Tie as tie
 
 returns : tie.Need-returns
-returns c =
+returns c tables before =
     let s = c .before .before .before .before in
     let r = s .args .record .now in
     let e = c .before .blank .ensures ∙ ap isBlank (c .before .before .field .ensures .0) ∙ performer-43 r (s .pre .1) in
-    λ t before.
-    let own = own-performer t before r (s .pre .1) in
-    record { set = rw (own, ← e) (c .nameless .ensures .0); level = rw (own, ← e) (c .nameless .ensures .1) }
+    own-performer tables before r (s .pre .1) _ _ (rw (← e)) (c .nameless .ensures .0) (c .nameless .ensures .1)
 
 pub performer-spec : {M : Type 1} → statement M
 performer-spec = tie.close (tie.spec (λ c κs. search needs) (λ c κs. search needs) (λ c κs. search needs) returns)

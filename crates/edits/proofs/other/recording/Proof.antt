@@ -6,12 +6,15 @@ use Rattle.edits.proofs.other.recording.Statement.{statement}
 use Rattle.edits.proofs.other.recording.Tie as tie
 
 returns : tie.Need-returns
-returns c =
-    let s = c .before .before .before .before .before in
-    let r = s .args .record .now in
-    λ t before.
-    let own = own-recording t before r (s .pre .1) in
-    record { set = rw (own, ← c .before .found-44 .ensures, ← c .before .before .before .found-45 .ensures, ← c .before .before .found-46 .ensures) (c .gather .ensures .0); level = rw (own, ← c .before .found-44 .ensures, ← c .before .before .before .found-45 .ensures, ← c .before .before .found-46 .ensures) (c .gather .ensures .1) }
+returns c tables before =
+    let at44 = c .before in
+    let at46 = at44 .before in
+    let at45 = at46 .before in
+    let s = at45 .before .before in
+    own-recording tables before (s .args .record .now) (s .pre .1) _ _
+    (rw (← at44 .found-44 .ensures, ← at45 .found-45 .ensures, ← at46 .found-46 .ensures))
+    (c .gather .ensures .0)
+    (c .gather .ensures .1)
 
 pub recording-spec : {M : Type 1} → statement M
 recording-spec =

@@ -1,17 +1,38 @@
 -- `edits::writer::judge` meets its contract: each finding by its function, and the others do not hold of this kind of record.
 -- Assumes nothing.
+use mathlib.Core.List.{[], _∷_}
 use Rattle.edits.proofs.Own.{own-writer}
 use borrow.Author.Needs.{needs}
 use Rattle.edits.proofs.writer.judge.Statement.{statement}
 use Rattle.edits.proofs.writer.judge.Tie as tie
 
 returns : tie.Need-returns
-returns c =
-    let s = c .before .before .before .before .before .before .before .before in
-    let r = s .args .record .now in
-    λ t before.
-    let own = own-writer t before r (s .pre .1) in
-    record { set = rw (own, ← c .before .before .before .before .before .found-38 .ensures, ← c .before .before .before .before .found-39 .ensures, ← c .before .before .before .found-40 .ensures, ← c .before .before .found-41 .ensures, ← c .before .found-42 .ensures) (c .gather .ensures .0); level = rw (own, ← c .before .before .before .before .before .found-38 .ensures, ← c .before .before .before .before .found-39 .ensures, ← c .before .before .before .found-40 .ensures, ← c .before .before .found-41 .ensures, ← c .before .found-42 .ensures) (c .gather .ensures .1) }
+returns c tables before =
+    let at42 = c .before in
+    let at41 = at42 .before in
+    let at40 = at41 .before in
+    let at39 = at40 .before in
+    let at38 = at39 .before in
+    let s = at38 .before .before .before in
+    own-writer tables before (s .args .record .now) (s .pre .1)
+    (
+    at38 .found-38 .result
+    ∷ at39 .found-39 .result
+    ∷ at40 .found-40 .result
+    ∷ at41 .found-41 .result
+    ∷ at42 .found-42 .result
+    ∷ []
+    )
+    _
+    (rw (
+      ← at38 .found-38 .ensures,
+      ← at39 .found-39 .ensures,
+      ← at40 .found-40 .ensures,
+      ← at41 .found-41 .ensures,
+      ← at42 .found-42 .ensures,
+    ))
+    (c .gather .ensures .0)
+    (c .gather .ensures .1)
 
 pub judge-spec : {M : Type 1} → statement M
 judge-spec =
