@@ -137,12 +137,18 @@ module _ (kind : Row) (r : Bytes) (its : kind ≡ rowFor (take 3 r)) where
 
   -- a detail without findings of its own
   pub none-found : (tables : Tables) (ds : List Bytes) (f : Found) → f .set ≡ 0 → f .level ≡ 0 → cls cwr22 r ≡ detail
-      → (kind .sort ≡ 2 → ⊥) → (kind .sort ≡ 3 → ⊥) → (kind .sort ≡ 4 → ⊥) → (kind .sort ≡ 5 → ⊥) → (kind .sort ≡ 6 → ⊥) → (kind .sort ≡ 7 → ⊥) → (kind .sort ≡ 9 → ⊥)
+      → (kind .sort ≡ 2 → ⊥) → (kind .sort ≡ 3 → ⊥) → (kind .sort ≡ 4 → ⊥) → (kind .sort ≡ 5 → ⊥)
+      → (kind .sort ≡ 6 → ⊥) → (kind .sort ≡ 7 → ⊥) → (kind .sort ≡ 9 → ⊥)
       → Judged tables ds r f
   unfolding sortOf rows22
   none-found tables ds f s l d n2 n3 n4 n5 n6 n7 n9 =
       let hd : NoHeader r = record { nwr = not-header "NWR" d refl; rev = not-header "REV" d refl } in
-      let m : No24 r = record { ter = not-type "TER" 9 refl n9; ipa = not-type "IPA" 9 refl n9; npa = not-type "NPA" 9 refl n9; msg = not-type "MSG" 9 refl n9 } in
+      let m : No24 r = record {
+        ter = not-type "TER" 9 refl n9;
+        ipa = not-type "IPA" 9 refl n9;
+        npa = not-type "NPA" 9 refl n9;
+        msg = not-type "MSG" 9 refl n9;
+      } in
       let p : NoPublisher r = record { spu = not-type "SPU" 2 refl n2; opu = not-type "OPU" 2 refl n2 } in
       let w : NoWriter r = record { swr = not-type "SWR" 3 refl n3; owr = not-type "OWR" 3 refl n3 } in
       let v : No43 r = record { ewt = not-type "EWT" 4 refl n4; ver = not-type "VER" 5 refl n5; per = not-type "PER" 6 refl n6 } in
@@ -154,7 +160,8 @@ module _ (kind : Row) (r : Bytes) (its : kind ≡ rowFor (take 3 r)) where
   sized : (name : String) (n : ℕ) → isType name r ≡ true → rowFor (ascii name) .length ≡ n → length r ≡ kind .length → length r ≡ n
   sized name n e q l = l ∙ ap (λ (k : Row). k .length) its ∙ ap (λ type. rowFor type .length) (type-is name r e) ∙ q
 
-  either-sized : (a b : String) (n : ℕ) → (isType a r || isType b r) ≡ true → rowFor (ascii a) .length ≡ n → rowFor (ascii b) .length ≡ n → length r ≡ kind .length → length r ≡ n
+  either-sized : (a b : String) (n : ℕ) → (isType a r || isType b r) ≡ true → rowFor (ascii a) .length ≡ n → rowFor (ascii b) .length ≡ n
+      → length r ≡ kind .length → length r ≡ n
   either-sized a b n e p q l = l ∙ ap (λ (k : Row). k .length) its ∙ of-two a b r (λ type. rowFor type .length ≡ n) p q e
 
   pub publisher-here : length r ≡ kind .length → kind .sort ≡ 2 → IsPublisher r
