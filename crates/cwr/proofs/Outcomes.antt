@@ -51,7 +51,9 @@ passes-fit f v g k m n e a b =
     let c : length (restAt f 0) ≡ n = records-counted f k m n e in
     record {
       short = d .limits .0;
-      here = subst (Here f 0 unknown) (sym (ap recordsIn (d .is-lines))) (here-start f (d .rs) (d .is-lines) (answer-judged cwr22 (d .rs) k m n (d .is-judged) .in-place));
+      here =
+          subst (Here f 0 unknown) (sym (ap recordsIn (d .is-lines)))
+          (here-start f (d .rs) (d .is-lines) (answer-judged cwr22 (d .rs) k m n (d .is-judged) .in-place));
       room = record { few = omega (arith, d .limits .1, pairs-counted f k m n e); inV = omega arith; inF = omega arith };
     }
 

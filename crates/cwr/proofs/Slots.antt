@@ -22,7 +22,11 @@ module _ (s x y z : List ℕ) (a : length x ≡ 4096) (b : length y ≡ 4096) (c
       let n : 4096 ≡ 0 + length x = omega arith in
       let m : 8192 ≡ 0 + length (x ++ y) = omega (arith, two) in
       part-splice 8192 4096 z _ c
-      ∙ ap (splice 8192 z) (part-splice 4096 4096 y _ b ∙ ap (splice 4096 y) (part-splice 0 4096 x s a) ∙ ap (λ k. splice k y (splice 0 x s)) n ∙ splice-on 0 x s (omega arith) y)
+      ∙ ap (splice 8192 z)
+      (part-splice 4096 4096 y _ b
+      ∙ ap (splice 4096 y) (part-splice 0 4096 x s a)
+      ∙ ap (λ k. splice k y (splice 0 x s)) n
+      ∙ splice-on 0 x s (omega arith) y)
       ∙ ap (λ k. splice k z (splice 0 (x ++ y) s)) m
       ∙ splice-on 0 (x ++ y) s (omega (arith, two)) z
       ∙ splice-front ((x ++ y) ++ z) s

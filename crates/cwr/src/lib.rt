@@ -11,12 +11,11 @@ ghost use Rattle.format.specs.Structure.{mostBytes};
 ghost use Rattle.format.specs.Table.{unknown};
 ghost use Rattle.rules.specs.Tables.{languageSize, societySize, categorySize, rightTable, tablesOf};
 ghost use Rattle.rules.specs.Values.{largestTolerance};
-ghost use Rattle.rules.specs.Verdicts.{fileFindings, fileVerdicts};
-ghost use Rattle.rules.specs.Outcome.{enough, answer as Outcome·answer, content, shortTolerance};
+ghost use Rattle.rules.specs.Outcome.{enough, answer as Outcome·answer, shortTolerance};
 ghost use Rattle.answers.specs.Numbers.{answerOf};
 ghost use Rattle.structure.specs.Cursor.{Here};
-ghost use Rattle.buffers.specs.Written.{Written};
 ghost use Rattle.transactions.specs.Walk.{restAt, Room};
+ghost use Rattle.files.specs.Levels.{WrittenFile};
 ghost use Rattle.cwr.specs.Indexes.{AllIndexed};
 ghost use Rattle.cwr.specs.Promises.{Checked, Numbered, Counted, Lowest};
 
@@ -51,7 +50,8 @@ fn answer(
     verdicts: usize,
     findings: usize,
 ) -> Answer
-    ensures { λ r. ⌜ answerOf r ≡ Outcome·answer (tablesOf (now (languages .entry)) (now (societies .entry)) (now (categories .entry))) tolerance (now (file .entry)) verdicts findings ⌝ }
+    ensures { λ r. ⌜ answerOf r ≡ Outcome·answer (tablesOf (now (languages .entry)) (now (societies .entry)) (now (categories .entry)))
+        tolerance (now (file .entry)) verdicts findings ⌝ }
 {
     if !Share::is_tolerance(tolerance) {
         return Answer::Tolerance;
@@ -72,7 +72,8 @@ fn answer(
 
 // The indexes of the three tables, side by side.
 fn index_all(languages: &[u8], societies: &[u8], categories: &[u8], slots: &mut [u16])
-    requires { ⌜ (rightTable languageSize (now languages) ≡ true) × (rightTable societySize (now societies) ≡ true) × (rightTable categorySize (now categories) ≡ true) × (length (now slots) ≡ 12288) ⌝ }
+    requires { ⌜ (rightTable languageSize (now languages) ≡ true) × (rightTable societySize (now societies) ≡ true)
+        × (rightTable categorySize (now categories) ≡ true) × (length (now slots) ≡ 12288) ⌝ }
     ensures { λ _. ⌜ AllIndexed (now (languages .entry)) (now (societies .entry)) (now (categories .entry)) (now (slots .exit)) ⌝ }
 {
     tables::index(languages, LANGUAGE, &mut slots[0..4096]);
@@ -91,9 +92,11 @@ fn judge_indexed(
     verdicts: &mut [u8],
     findings: &mut [u8],
 )
-    requires { ⌜ (length (now file) ≤ mostBytes) × Here (now file) 0 unknown (restAt (now file) 0) × Room 0 (length (restAt (now file) 0)) (length (now verdicts)) (length (now findings)) ⌝ }
+    requires { ⌜ (length (now file) ≤ mostBytes) × Here (now file) 0 unknown (restAt (now file) 0)
+        × Room 0 (length (restAt (now file) 0)) (length (now verdicts)) (length (now findings)) ⌝ }
     requires { ⌜ (tolerance ≤ largestTolerance) × AllIndexed (now languages) (now societies) (now categories) (now slots) ⌝ }
-    ensures { λ _. ⌜ Written 0 (fileVerdicts (tablesOf (now (languages .entry)) (now (societies .entry)) (now (categories .entry))) tolerance (content (now (file .entry)))) (fileFindings (tablesOf (now (languages .entry)) (now (societies .entry)) (now (categories .entry))) tolerance (content (now (file .entry)))) (now (verdicts .entry)) (now (findings .entry)) (now (verdicts .exit)) (now (findings .exit)) ⌝ }
+    ensures { λ _. ⌜ WrittenFile (tablesOf (now (languages .entry)) (now (societies .entry)) (now (categories .entry)))
+        tolerance (now (file .entry)) (now (verdicts .entry)) (now (findings .entry)) (now (verdicts .exit)) (now (findings .exit)) ⌝ }
 {
     files::judge_file(
         file,
@@ -109,7 +112,8 @@ fn judge_indexed(
     );
 }
 
-// The tables are indexed once, in slots on the stack. (A part of a local array cannot be lent, so the function that holds it lends it whole.)
+// The tables are indexed once, in slots on the stack. (A part of a local array cannot be lent, so the function that holds it lends it
+// whole.)
 fn judge(
     file: &[u8],
     languages: &[u8],
@@ -119,9 +123,12 @@ fn judge(
     verdicts: &mut [u8],
     findings: &mut [u8],
 )
-    requires { ⌜ (length (now file) ≤ mostBytes) × Here (now file) 0 unknown (restAt (now file) 0) × Room 0 (length (restAt (now file) 0)) (length (now verdicts)) (length (now findings)) ⌝ }
-    requires { ⌜ (tolerance ≤ largestTolerance) × (rightTable languageSize (now languages) ≡ true) × (rightTable societySize (now societies) ≡ true) × (rightTable categorySize (now categories) ≡ true) ⌝ }
-    ensures { λ _. ⌜ Written 0 (fileVerdicts (tablesOf (now (languages .entry)) (now (societies .entry)) (now (categories .entry))) tolerance (content (now (file .entry)))) (fileFindings (tablesOf (now (languages .entry)) (now (societies .entry)) (now (categories .entry))) tolerance (content (now (file .entry)))) (now (verdicts .entry)) (now (findings .entry)) (now (verdicts .exit)) (now (findings .exit)) ⌝ }
+    requires { ⌜ (length (now file) ≤ mostBytes) × Here (now file) 0 unknown (restAt (now file) 0)
+        × Room 0 (length (restAt (now file) 0)) (length (now verdicts)) (length (now findings)) ⌝ }
+    requires { ⌜ (tolerance ≤ largestTolerance) × (rightTable languageSize (now languages) ≡ true)
+        × (rightTable societySize (now societies) ≡ true) × (rightTable categorySize (now categories) ≡ true) ⌝ }
+    ensures { λ _. ⌜ WrittenFile (tablesOf (now (languages .entry)) (now (societies .entry)) (now (categories .entry)))
+        tolerance (now (file .entry)) (now (verdicts .entry)) (now (findings .entry)) (now (verdicts .exit)) (now (findings .exit)) ⌝ }
 {
     let mut slots = [0u16; 12288];
     index_all(languages, societies, categories, &mut slots);
@@ -149,7 +156,8 @@ pub fn check(
     verdicts: &mut [u8],
     findings: &mut [u8],
 ) -> Answer
-    ensures { λ r. ⌜ Checked (tablesOf (now (languages .entry)) (now (societies .entry)) (now (categories .entry))) tolerance (now (file .entry)) (now (verdicts .entry)) (now (findings .entry)) r (now (verdicts .exit)) (now (findings .exit)) ⌝ }
+    ensures { λ r. ⌜ Checked (tablesOf (now (languages .entry)) (now (societies .entry)) (now (categories .entry))) tolerance
+        (now (file .entry)) (now (verdicts .entry)) (now (findings .entry)) r (now (verdicts .exit)) (now (findings .exit)) ⌝ }
 {
     let r = answer(
         file,
@@ -184,7 +192,8 @@ pub fn check_short(
     verdicts: &mut [u8],
     findings: &mut [u8],
 ) -> Answer
-    ensures { λ r. ⌜ Checked (tablesOf (now (languages .entry)) (now (societies .entry)) (now (categories .entry))) shortTolerance (now (file .entry)) (now (verdicts .entry)) (now (findings .entry)) r (now (verdicts .exit)) (now (findings .exit)) ⌝ }
+    ensures { λ r. ⌜ Checked (tablesOf (now (languages .entry)) (now (societies .entry)) (now (categories .entry))) shortTolerance
+        (now (file .entry)) (now (verdicts .entry)) (now (findings .entry)) r (now (verdicts .exit)) (now (findings .exit)) ⌝ }
 {
     check(
         file,

@@ -137,7 +137,8 @@ module _ (kind : Row) (r : Bytes) (its : kind ≡ rowFor (take 3 r)) where
 
   -- a detail without findings of its own
   pub none-found : (tables : Tables) (ds : List Bytes) (f : Found) → f .set ≡ 0 → f .level ≡ 0 → cls cwr22 r ≡ detail
-      → (kind .sort ≡ 2 → ⊥) → (kind .sort ≡ 3 → ⊥) → (kind .sort ≡ 4 → ⊥) → (kind .sort ≡ 5 → ⊥) → (kind .sort ≡ 6 → ⊥) → (kind .sort ≡ 7 → ⊥) → (kind .sort ≡ 9 → ⊥)
+      → (kind .sort ≡ 2 → ⊥) → (kind .sort ≡ 3 → ⊥) → (kind .sort ≡ 4 → ⊥) → (kind .sort ≡ 5 → ⊥)
+      → (kind .sort ≡ 6 → ⊥) → (kind .sort ≡ 7 → ⊥) → (kind .sort ≡ 9 → ⊥)
       → Judged tables ds r f
   unfolding sortOf rows22
   none-found tables ds f s l d n2 n3 n4 n5 n6 n7 n9 =
@@ -165,7 +166,8 @@ module _ (kind : Row) (r : Bytes) (its : kind ≡ rowFor (take 3 r)) where
   sized : (name : String) (n : ℕ) → isType name r ≡ true → rowFor (ascii name) .length ≡ n → length r ≡ kind .length → length r ≡ n
   sized name n e q l = l ∙ ap (λ (k : Row). k .length) its ∙ ap (λ type. rowFor type .length) (type-is name r e) ∙ q
 
-  either-sized : (a b : String) (n : ℕ) → (isType a r || isType b r) ≡ true → rowFor (ascii a) .length ≡ n → rowFor (ascii b) .length ≡ n → length r ≡ kind .length → length r ≡ n
+  either-sized : (a b : String) (n : ℕ) → (isType a r || isType b r) ≡ true → rowFor (ascii a) .length ≡ n → rowFor (ascii b) .length ≡ n
+      → length r ≡ kind .length → length r ≡ n
   either-sized a b n e p q l = l ∙ ap (λ (k : Row). k .length) its ∙ of-two a b r (λ type. rowFor type .length ≡ n) p q e
 
   pub publisher-here : length r ≡ kind .length → kind .sort ≡ 2 → IsPublisher r

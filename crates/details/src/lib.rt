@@ -50,7 +50,11 @@ pub struct Publisher {
 fn rights_at(record: &[u8], pr: usize, mr: usize, sr: usize) -> Rights
     requires { ⌜ (1 ≤ pr) × (1 ≤ mr) × (1 ≤ sr) ⌝ }
     requires { ⌜ (pr - 1 + 5 ≤ length (now «record»)) × (mr - 1 + 5 ≤ length (now «record»)) × (sr - 1 + 5 ≤ length (now «record»)) ⌝ }
-    ensures { λ r. ⌜ r ≡ record { pr = shareOf (fieldOf pr 5 (now («record» .entry))); mr = shareOf (fieldOf mr 5 (now («record» .entry))); sr = shareOf (fieldOf sr 5 (now («record» .entry))) } ⌝ }
+    ensures { λ r. ⌜ r ≡ record {
+      pr = shareOf (fieldOf pr 5 (now («record» .entry)));
+      mr = shareOf (fieldOf mr 5 (now («record» .entry)));
+      sr = shareOf (fieldOf sr 5 (now («record» .entry)));
+    } ⌝ }
     ensures { λ r. ⌜ AtMost 99999 r ⌝ }
 {
     let p = Share::of(text::field(record, pr, 5));
@@ -103,7 +107,11 @@ impl Publisher {
         sums: &mut [u64; 100],
     ) -> Met
         requires { ⌜ Small (now es) (now sums) × AtMost 99999 (self .shares) ⌝ }
-        ensures { λ m. ⌜ ((ds : List Bytes) (r : Bytes) → Tallied (chainsOf (now (begun .entry)) (now (es .entry)) (now (own .entry)) (now (paid .entry)) (now (sums .entry)) met) ds → Reads self r → Tallied (chainsOf (now (begun .exit)) (now (es .exit)) (now (own .exit)) (now (paid .exit)) (now (sums .exit)) m) (ds ++ r ∷ [])) ⌝ }
+        ensures { λ m. ⌜ ((ds : List Bytes) (r : Bytes)
+            → Tallied (chainsOf (now (begun .entry)) (now (es .entry)) (now (own .entry)) (now (paid .entry)) (now (sums .entry)) met) ds
+            → Reads self r
+            → Tallied (chainsOf (now (begun .exit)) (now (es .exit)) (now (own .exit)) (now (paid .exit)) (now (sums .exit)) m)
+            (ds ++ r ∷ [])) ⌝ }
     {
         let shares = self.shares;
         if self.sequence < 100 {
@@ -135,8 +143,11 @@ impl Publisher {
         societies: &[u8],
         slots: &[u16],
     ) -> Step
-        requires { ⌜ Below (2 ^ 60) (y .totals) × AtMost 99999 (self .shares) × (y .last ≤ 101) × IsPublisher (now «record») × Indexed 3 (now societies) (now slots) ⌝ }
-        ensures { λ s. ⌜ ((tables : Tables) (ds : List Bytes) → tables .societies ≡ now (societies .entry) → Known y ds → Stands row (now («record» .entry)) → Reads self (now («record» .entry)) → known ≡ earlierE ds (now («record» .entry)) → Stepped tables ds (now («record» .entry)) s) ⌝ }
+        requires { ⌜ Below (2 ^ 60) (y .totals) × AtMost 99999 (self .shares) × (y .last ≤ 101)
+            × IsPublisher (now «record») × Indexed 3 (now societies) (now slots) ⌝ }
+        ensures { λ s. ⌜ ((tables : Tables) (ds : List Bytes) → tables .societies ≡ now (societies .entry) → Known y ds
+            → Stands row (now («record» .entry)) → Reads self (now («record» .entry))
+            → known ≡ earlierE ds (now («record» .entry)) → Stepped tables ds (now («record» .entry)) s) ⌝ }
     {
         let shares = self.shares;
         let found = edits::publisher::judge(record, societies, slots, y.last, known);
@@ -152,7 +163,8 @@ impl Publisher {
 
 fn writer(record: &[u8], row: Row, y: Tally) -> Step
     requires { ⌜ Below (2 ^ 60) (y .totals) × Writer (now «record») ⌝ }
-    ensures { λ s. ⌜ ((tables : Tables) (ds : List Bytes) → Known y ds → Stands row (now («record» .entry)) → Stepped tables ds (now («record» .entry)) s) ⌝ }
+    ensures { λ s. ⌜ ((tables : Tables) (ds : List Bytes) → Known y ds → Stands row (now («record» .entry))
+        → Stepped tables ds (now («record» .entry)) s) ⌝ }
 {
     let found = edits::writer::judge(record);
     let place = edits::writer::designation_in_force(record);

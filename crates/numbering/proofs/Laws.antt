@@ -94,18 +94,19 @@ filling-start f old s n e w z =
       kept = refl;
     }
 
-pub filling-end : (f old out : Bytes) (s : Stand) → Filling f old out s → length f ≤ s .at → out ≡ numberedFile cwr22 f ++ drop (length f) old
+pub filling-end : {f old out : Bytes} {s : Stand} → Filling f old out s → length f ≤ s .at → out ≡ numberedFile cwr22 f ++ drop (length f) old
 unfolding lines
-filling-end f old out s F h =
+filling-end {f} {old} {out} {s} F h =
     let e : s .at ≡ length f = omega (arith, F .bounded .inside) in
     let front : take (s .at) out ≡ numberedFile cwr22 f = sym (append-nil (take (s .at) out)) ∙ (rw (drop-of-length-le f h) at (F .owed)) in
     sym (take-append-drop (s .at) out) ∙ rw (front, F .kept, e)
 
 -- three bytes stand there, at the least
-pub three-bytes : (f old out : Bytes) (s : Stand) → Filling f old out s → s .at < length f → s .at + 3 ≤ length f
-three-bytes f old out s F here = omega (arith, here-three f (s .at) here (F .fine) (F .all), fits f (s .at) here (F .fine))
+pub three-bytes : {f old out : Bytes} {s : Stand} → Filling f old out s → s .at < length f → s .at + 3 ≤ length f
+three-bytes {f} {s = s} F here = omega (arith, here-three f (s .at) here (F .fine) (F .all), fits f (s .at) here (F .fine))
 
-module _ (f old out : Bytes) (s : Stand) (F : Filling f old out s) (here : s .at < length f) (shape : Shape) (its : shape ≡ shapeOf (rowFor (take 3 (drop (s .at) f)))) where
+module _ {f old out : Bytes} {s : Stand} (F : Filling f old out s) (here : s .at < length f)
+    {shape : Shape} (its : shape ≡ shapeOf (rowFor (take 3 (drop (s .at) f)))) where
   abbrev row : Row
   row = rowFor (take 3 (drop (s .at) f))
 
@@ -129,11 +130,18 @@ module _ (f old out : Bytes) (s : Stand) (F : Filling f old out s) (here : s .at
 
   -- the bytes written, and after them the numbered rest
   module _ (e : ℕ) (q : e ≡ s .at + shape .length + 2) (ys : Bytes)
-      (w : ys ≡ take (at (classAt (shape .place))) (take (e - s .at) (drop (s .at) f)) ++ expected (tally (s .counts)) (classAt (shape .place)) ++ drop (at (classAt (shape .place)) + width (classAt (shape .place))) (take (e - s .at) (drop (s .at) f))) where
+      (w : ys
+      ≡ take (at (classAt (shape .place))) (take (e - s .at) (drop (s .at) f))
+      ++ expected (tally (s .counts)) (classAt (shape .place))
+      ++ drop (at (classAt (shape .place)) + width (classAt (shape .place))) (take (e - s .at) (drop (s .at) f))) where
     next-here : e ≡ s .at + textLength (drop (s .at) f) + 2
     next-here = q ∙ ap (λ (n : ℕ). s .at + n + 2) size
 
-    line : ys ≡ put (start (cls cwr22 (recordAt f (s .at)))) (expected (tally (s .counts)) (cls cwr22 (recordAt f (s .at)))) (cut (cls cwr22 (recordAt f (s .at))) (recordAt f (s .at))) ++ 13 ∷ 10 ∷ []
+    line : ys
+        ≡ put (start (cls cwr22 (recordAt f (s .at))))
+        (expected (tally (s .counts)) (cls cwr22 (recordAt f (s .at))))
+        (cut (cls cwr22 (recordAt f (s .at))) (recordAt f (s .at)))
+        ++ 13 ∷ 10 ∷ []
     line =
         let n : e - s .at ≡ textLength (drop (s .at) f) + 2 = omega (arith, next-here) in
         let whole = rw (n, line-here f (s .at) here (F .fine)) at w in
@@ -141,10 +149,13 @@ module _ (f old out : Bytes) (s : Stand) (F : Filling f old out s) (here : s .at
         ∙ line-numbered (recordAt f (s .at)) (classAt (shape .place)) (expected (tally (s .counts)) (classAt (shape .place))) numbers-fit
         ∙ rw class-here
 
-    owed-on : (take (s .at) out ++ ys) ++ unlines (number (count (tally (s .counts)) (classAt (shape .place))) (map (held cwr22) (recordsIn (lines (drop e f))))) ≡ numberedFile cwr22 f
+    owed-on : (take (s .at) out ++ ys)
+        ++ unlines (number (count (tally (s .counts)) (classAt (shape .place))) (map (held cwr22) (recordsIn (lines (drop e f)))))
+        ≡ numberedFile cwr22 f
     owed-on =
         rw (class-here, next-here)
-        (owed-turn (take (s .at) out) ys (tally (s .counts)) (recordAt f (s .at)) (recordsIn (lines (drop (s .at + textLength (drop (s .at) f) + 2) f))) (numberedFile cwr22 f) line
+        (owed-turn (take (s .at) out) ys (tally (s .counts)) (recordAt f (s .at))
+        (recordsIn (lines (drop (s .at + textLength (drop (s .at) f) + 2) f))) (numberedFile cwr22 f) line
         (rw (records-here f (s .at) here (F .fine)) at (F .owed)))
 
     pub filling-on : length f ≤ length out → length ys ≡ e - s .at → (next : Stand) → Next s (shape .length) (shape .place) next

@@ -35,7 +35,9 @@ module _ (f old : Bytes) (a : Answer) (is : a ≡ numbering cwr22 f) where
   unfolding numberAnswer numberBuffer
   refused-so e = rw (← is) (go a e)
     where
-      go : (b : Answer) → isPassed b ≡ false → (b ≡ inRoom (λ _. leb (length f) (length old)) b) × (old ≡ leftIn (inRoom (λ _. leb (length f) (length old)) b) (numberedFile cwr22 f) old)
+      go : (b : Answer) → isPassed b ≡ false
+          → (b ≡ inRoom (λ _. leb (length f) (length old)) b)
+          × (old ≡ leftIn (inRoom (λ _. leb (length f) (length old)) b) (numberedFile cwr22 f) old)
       go (refused n i) q = (refl, refl)
       go (passed g t r) q = absurd (false≢true (sym q))
 
@@ -44,7 +46,9 @@ module _ (f old : Bytes) (a : Answer) (is : a ≡ numbering cwr22 f) where
     unfolding numberAnswer numberBuffer
     short-so h = rw (← is) (go a e)
       where
-        go : (b : Answer) → isPassed b ≡ true → (refused 11 0 ≡ inRoom (λ _. leb (length f) (length old)) b) × (old ≡ leftIn (inRoom (λ _. leb (length f) (length old)) b) (numberedFile cwr22 f) old)
+        go : (b : Answer) → isPassed b ≡ true
+            → (refused 11 0 ≡ inRoom (λ _. leb (length f) (length old)) b)
+            × (old ≡ leftIn (inRoom (λ _. leb (length f) (length old)) b) (numberedFile cwr22 f) old)
         go (refused n i) q = absurd (false≢true q)
         go (passed g t r) q = rw (lt-leb (length f) (length old) h) (refl, refl)
 
@@ -54,7 +58,8 @@ module _ (f old : Bytes) (a : Answer) (is : a ≡ numbering cwr22 f) where
     filled-so h new w = rw (← is) (go a e is)
       where
         go : (b : Answer) → isPassed b ≡ true → b ≡ numbering cwr22 f
-            → (b ≡ inRoom (λ _. leb (length f) (length old)) b) × (new ≡ leftIn (inRoom (λ _. leb (length f) (length old)) b) (numberedFile cwr22 f) old)
+            → (b ≡ inRoom (λ _. leb (length f) (length old)) b)
+            × (new ≡ leftIn (inRoom (λ _. leb (length f) (length old)) b) (numberedFile cwr22 f) old)
         go (refused n i) q k = absurd (false≢true q)
         go (passed g t r) q k =
             let l = numbers-22 .as-long f (g, t, r, sym k) in

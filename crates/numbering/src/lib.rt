@@ -20,7 +20,9 @@ ghost use Rattle.numbering.specs.Fill.{Sized};
 // One line, with its CR LF: copied, and its numbers written over what stood there.
 fn number_line(line: &[u8], out: &mut [u8], place: u8, counts: Counts)
     requires { ⌜ (length (now out) ≡ length (now line)) × (CanGrow counts) × (at (classAt place) + width (classAt place) ≤ length (now line)) ⌝ }
-    ensures { λ _. ⌜ now (out .exit) ≡ take (at (classAt place)) (now (line .entry)) ++ expected (tally counts) (classAt place) ++ drop (at (classAt place) + width (classAt place)) (now (line .entry)) ⌝ }
+    ensures { λ _. ⌜ now (out .exit) ≡ take (at (classAt place)) (now (line .entry))
+        ++ expected (tally counts) (classAt place)
+        ++ drop (at (classAt place) + width (classAt place)) (now (line .entry)) ⌝ }
 {
     bytes::copy(line, out);
     counts.put(place, out);

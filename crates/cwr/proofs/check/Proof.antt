@@ -12,9 +12,12 @@ returns c = refused-so _ _ _ _ _ _ (c .before .before .answer .ensures) (sym (c 
 
 judge-requires : tie.Need-judge-requires
 judge-requires c κs =
+    let answered = c .before .before .before .before in
+    let verdicts = answered .before .before .before .before .before .before .before .args .verdicts .now in
+    let findings = answered .before .before .before .before .before .before .before .args .findings .now in
     let passes = sym (c .before .before .before .passes .ensures) ∙ not-false _ (c .before .before .if1 .left) in
-    let o = in-order _ _ _ (c .before .before .before .before .before .before .before .before .before .before .before .args .verdicts .now) (c .before .before .before .before .before .before .before .before .before .before .before .args .findings .now) _ (c .before .before .before .before .answer .ensures) passes in
-    let h = fit _ _ _ (c .before .before .before .before .before .before .before .before .before .before .before .args .verdicts .now) (c .before .before .before .before .before .before .before .before .before .before .before .args .findings .now) _ (c .before .before .before .before .answer .ensures) passes in
+    let o = in-order _ _ _ verdicts findings _ (answered .answer .ensures) passes in
+    let h = fit _ _ _ verdicts findings _ (answered .answer .ensures) passes in
     ((h .short, h .here, h .room), (o .tolerance, o .languages, o .societies, o .categories))
 
 same-length : tie.Need-same-length
@@ -24,7 +27,11 @@ same-length-2 : tie.Need-same-length-2
 same-length-2 c = kept-f (c .before .before .before .before .judge .ensures)
 
 returns-2 : tie.Need-returns-2
-returns-2 c = judged-so _ _ _ _ _ _ (c .before .before .before .before .before .before .before .before .before .answer .ensures) (sym (c .before .before .before .before .before .before .before .before .passes .ensures) ∙ not-false _ (c .before .before .before .before .before .before .before .if1 .left)) _ _ (c .before .before .before .before .judge .ensures)
+returns-2 c =
+    let judged = c .before .before .before .before in
+    let answered = judged .before .before .before .before .before in
+    let passes = sym (judged .before .before .before .before .passes .ensures) ∙ not-false _ (judged .before .before .before .if1 .left) in
+    judged-so _ _ _ _ _ _ (answered .answer .ensures) passes _ _ (judged .judge .ensures)
 
 pub check-spec : {M : Type 1} → statement M
 check-spec =

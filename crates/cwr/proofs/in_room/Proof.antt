@@ -6,10 +6,14 @@ use Rattle.cwr.proofs.in_room.Statement.{statement}
 use Rattle.cwr.proofs.in_room.Tie as tie
 
 returns : tie.Need-returns
-returns c = too-short (answerOf (c .before .before .before .args .answer)) (c .before .before .told .result) (c .before .before .told .ensures .0) _ _ (c .if1 .taken)
+returns c =
+    let told = c .before .before in
+    too-short (answerOf (told .before .args .answer)) (told .told .result) (told .told .ensures .0) _ _ (c .if1 .taken)
 
 returns-2 : tie.Need-returns-2
-returns-2 c = long-enough (answerOf (c .before .before .before .args .answer)) (c .before .before .told .result) (c .before .before .told .ensures .0) _ _ (c .if1 .left)
+returns-2 c =
+    let told = c .before .before in
+    long-enough (answerOf (told .before .args .answer)) (told .told .result) (told .told .ensures .0) _ _ (c .if1 .left)
 
 pub in-room-spec : {M : Type 1} → statement M
 in-room-spec = tie.close (tie.spec (λ c κs. search needs) returns returns-2)

@@ -12,14 +12,19 @@ same-length c = search needs
 
 returns : tie.Need-returns
 returns c =
-    let a = indexed-length 2 _ _ (c .before .before .before .before .before .before .before .before .before .before .index .ensures) in
-    let b = indexed-length 3 _ _ (c .before .before .before .before .before .before .index2 .ensures) in
-    let d = indexed-length 3 _ _ (c .before .before .index3 .ensures) in
+    let third = c .before .before in
+    let second = c .before .before .before .before .before .before in
+    let first = c .before .before .before .before .before .before .before .before .before .before in
+    let start = first .before .before .before .before .before .before in
+    let before = start .args .slots .now in
+    let a = indexed-length 2 _ _ (first .index .ensures) in
+    let b = indexed-length 3 _ _ (second .index2 .ensures) in
+    let d = indexed-length 3 _ _ (third .index3 .ensures) in
     record {
-      long = same-length c ∙ c .before .before .before .before .before .before .before .before .before .before .before .before .before .before .before .before .pre .3;
-      ofLanguages = rw (first-part (c .before .before .before .before .before .before .before .before .before .before .before .before .before .before .before .before .args .slots .now) _ _ _ a b d (omega (arith, c .before .before .before .before .before .before .before .before .before .before .before .before .before .before .before .before .pre .3))) (c .before .before .before .before .before .before .before .before .before .before .index .ensures);
-      ofSocieties = rw (second-part (c .before .before .before .before .before .before .before .before .before .before .before .before .before .before .before .before .args .slots .now) _ _ _ a b d (omega (arith, c .before .before .before .before .before .before .before .before .before .before .before .before .before .before .before .before .pre .3))) (c .before .before .before .before .before .before .index2 .ensures);
-      ofCategories = rw (third-part (c .before .before .before .before .before .before .before .before .before .before .before .before .before .before .before .before .args .slots .now) _ _ _ a b d (omega (arith, c .before .before .before .before .before .before .before .before .before .before .before .before .before .before .before .before .pre .3))) (c .before .before .index3 .ensures);
+      long = same-length c ∙ start .pre .3;
+      ofLanguages = rw (first-part before _ _ _ a b d (omega (arith, start .pre .3))) (first .index .ensures);
+      ofSocieties = rw (second-part before _ _ _ a b d (omega (arith, start .pre .3))) (second .index2 .ensures);
+      ofCategories = rw (third-part before _ _ _ a b d (omega (arith, start .pre .3))) (third .index3 .ensures);
     }
 
 pub index-all-spec : {M : Type 1} → statement M

@@ -5,10 +5,15 @@ use Rattle.cwr.proofs.judge.Statement.{statement}
 use Rattle.cwr.proofs.judge.Tie as tie
 
 index-all-requires : tie.Need-index-all-requires
-index-all-requires c κs = (c .before .before .before .before .before .before .before .pre .1 .1, c .before .before .before .before .before .before .before .pre .1 .2, c .before .before .before .before .before .before .before .pre .1 .3, search needs)
+index-all-requires c κs =
+    let start = c .before .before .before .before .before .before .before in
+    (start .pre .1 .1, start .pre .1 .2, start .pre .1 .3, search needs)
 
 judge-indexed-requires : tie.Need-judge-indexed-requires
-judge-indexed-requires c κs = (c .before .before .before .before .before .before .before .before .before .before .before .before .pre .0, (c .before .before .before .before .before .before .before .before .before .before .before .before .pre .1 .0, c .before .before .before .before .index-all .ensures))
+judge-indexed-requires c κs =
+    let indexed = c .before .before .before .before in
+    let start = indexed .before .before .before .before .before .before .before .before in
+    (start .pre .0, (start .pre .1 .0, indexed .index-all .ensures))
 
 same-length : tie.Need-same-length
 same-length c = kept-v (c .before .before .before .before .judge-indexed .ensures)

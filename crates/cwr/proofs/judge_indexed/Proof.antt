@@ -15,7 +15,10 @@ part-judge-file-end-3 : tie.Need-part-judge-file-end-3
 part-judge-file-end-3 c = omega (arith, c .before .before .before .before .before .before .before .before .before .pre .1 .1 .long)
 
 judge-file-requires : tie.Need-judge-file-requires
-judge-file-requires c κs = (c .before .before .before .before .before .before .before .before .before .before .before .before .pre .0, (c .before .before .before .before .before .before .before .before .before .before .before .before .pre .1 .0, c .before .before .before .before .before .before .before .before .before .before .before .before .pre .1 .1 .ofLanguages, c .before .before .before .before .before .before .before .before .before .before .before .before .pre .1 .1 .ofSocieties, c .before .before .before .before .before .before .before .before .before .before .before .before .pre .1 .1 .ofCategories))
+judge-file-requires c κs =
+    let start = c .before .before .before .before .before .before .before .before .before .before .before .before in
+    let indexes = start .pre .1 .1 in
+    (start .pre .0, (start .pre .1 .0, indexes .ofLanguages, indexes .ofSocieties, indexes .ofCategories))
 
 same-length : tie.Need-same-length
 same-length c = kept-v (c .before .before .before .before .judge-file .ensures)

@@ -7,16 +7,37 @@ use Rattle.numbering.proofs.number.Statement.{statement}
 use Rattle.numbering.proofs.number.Tie as tie
 
 returns : tie.Need-returns
-returns c = refused-so (c .before .before .before .before .before .args .file .now) (c .before .before .before .before .before .args .out .now) _ (c .before .before .check-places .ensures) (sym (c .before .passes .ensures) ∙ not-true _ (c .if1 .taken))
+returns c =
+    let start = c .before .before .before .before .before in
+    refused-so (start .args .file .now) (start .args .out .now) _ (c .before .before .check-places .ensures)
+    (sym (c .before .passes .ensures) ∙ not-true _ (c .if1 .taken))
 
 returns-2 : tie.Need-returns-2
-returns-2 c = short-so (c .before .before .before .before .before .before .args .file .now) (c .before .before .before .before .before .before .args .out .now) _ (c .before .before .before .check-places .ensures) (sym (c .before .before .passes .ensures) ∙ not-false _ (c .before .if1 .left)) (c .if2 .taken)
+returns-2 c =
+    let at1 = c .before .before .before in
+    let start = at1 .before .before .before in
+    short-so (start .args .file .now) (start .args .out .now) _ (at1 .check-places .ensures)
+    (sym (c .before .before .passes .ensures) ∙ not-false _ (c .before .if1 .left)) (c .if2 .taken)
 
 fill-requires : tie.Need-fill-requires
-fill-requires c κs = (sized (c .before .before .before .before .before .before .before .args .file .now) (c .before .before .before .before .before .before .before .args .out .now) _ (c .before .before .before .before .check-places .ensures) (sym (c .before .before .before .passes .ensures) ∙ not-false _ (c .before .before .if1 .left)), c .before .if2 .left)
+fill-requires c κs =
+    let at2 = c .before .before .before in
+    let at1 = at2 .before in
+    let start = at1 .before .before .before in (
+      sized (start .args .file .now) (start .args .out .now) _ (at1 .check-places .ensures)
+          (sym (at2 .passes .ensures) ∙ not-false _ (c .before .before .if1 .left)),
+      c .before .if2 .left,
+    )
 
 returns-3 : tie.Need-returns-3
-returns-3 c = filled-so (c .before .before .before .before .before .before .before .before .before .before .args .file .now) (c .before .before .before .before .before .before .before .before .before .before .args .out .now) _ (c .before .before .before .before .before .before .before .check-places .ensures) (sym (c .before .before .before .before .before .before .passes .ensures) ∙ not-false _ (c .before .before .before .before .before .if1 .left)) (c .before .before .before .before .if2 .left) _ (c .before .before .fill .ensures)
+returns-3 c =
+    let at4 = c .before .before .before .before in
+    let at3 = at4 .before in
+    let at2 = at3 .before in
+    let at1 = at2 .before in
+    let start = at1 .before .before .before in
+    filled-so (start .args .file .now) (start .args .out .now) _ (at1 .check-places .ensures)
+    (sym (at2 .passes .ensures) ∙ not-false _ (at3 .if1 .left)) (at4 .if2 .left) _ (c .before .before .fill .ensures)
 
 pub number-spec : {M : Type 1} → statement M
 number-spec =

@@ -8,9 +8,11 @@ use Rattle.numbering.proofs.number_line.Tie as tie
 
 returns : tie.Need-returns
 returns c =
-    let g = c .before .before .before .before .before .before .before .before .before .before .args in
+    let at1 = c .before .before .before .before .before .before in
+    let start = at1 .before .before .before .before in
+    let g = start .args in
     line-over (g .line .now) (g .out .now) _ _ (classAt (g .place)) (expected (tally (g .counts)) (classAt (g .place)))
-    (c .before .before .before .before .before .before .before .before .before .before .pre .0) (c .before .before .before .before .before .before .copy .ensures .1) (c .before .before .put .ensures)
+    (start .pre .0) (at1 .copy .ensures .1) (c .before .before .put .ensures)
 
 pub number-line-spec : {M : Type 1} → statement M
 number-line-spec = tie.close (tie.spec (λ c κs. search needs) (λ c κs. search needs) (λ c. search needs) returns)

@@ -9,7 +9,9 @@ use Rattle.details.proofs.Publisher.join.Tie as tie
 
 returns : tie.Need-returns
 returns c ds r t p =
-    c .join .ensures ds r t (chained (c .before .before .before .before .before .before .before .before .before .before .before .args .self) r p (c .before .before .before .before .before .before .before .before .if1 .taken)) (sym (p .spu)) (sym (p .e)) (sym (p .aq)) (summed (c .before .before .before .before .before .before .before .before .before .before .before .args .self) r p)
+    let at1 = c .before .before .before .before .before .before .before .before in
+    let start = at1 .before .before .before in
+    c .join .ensures ds r t (chained (start .args .self) r p (at1 .if1 .taken)) (sym (p .spu)) (sym (p .e)) (sym (p .aq)) (summed (start .args .self) r p)
 
 returns-2 : tie.Need-returns-2
 returns-2 c ds r t p =

@@ -5,9 +5,10 @@ use Rattle.details.proofs.Publisher.judged.Tie as tie
 
 returns : tie.Need-returns
 returns c t ds s k d p q =
+    let start = c .before .before .before .before .before .before in
     record {
       judged = c .before .judge .ensures t s ds (k .last) q;
-      known = c .with-publisher .ensures ds (c .before .before .before .before .before .before .args .record .now) k (d .0) (p .publisher) (p .sequence) (p .shares);
+      known = c .with-publisher .ensures ds (start .args .record .now) k (d .0) (p .publisher) (p .sequence) (p .shares);
     }
 
 pub judged-spec : {M : Type 1} → statement M
