@@ -17,7 +17,8 @@ use Rattle.buffers.proofs.Splice.{set-splice, part-splice, length-splic
 -- ---- one entry
 
 -- a verdict is stored at i, and of the findings the eight bytes before e, where the next record's begin, come back as those of a set
-pub entry : (i x n : ℕ) (s : List Bool) (v f ys : Bytes) (e : ℕ) → e ≡ 8 * (i + 1) → i < length v → e ≤ length f → ys ≡ bytesOf 8 n → n ≡ setOf s
+pub entry : (i x n : ℕ) (s : List Bool) (v f ys : Bytes) (e : ℕ) → e ≡ 8 * (i + 1) → i < length v → e ≤ length f → ys ≡ bytesOf 8 n
+    → n ≡ setOf s
     → Written i (x ∷ []) (s ∷ []) v f (set v i x) (putMid (e - 8) (e - (e - 8)) f ys)
 entry i x n s v f ys e k h g y q =
     let a : e - 8 ≡ 8 * i = omega arith in

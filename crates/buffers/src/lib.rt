@@ -11,7 +11,9 @@ ghost use Rattle.buffers.specs.Written.{Written};
 // Writes one record's verdict and findings, each to the record's place.
 pub fn settle(index: usize, set: u64, verdict: u8, verdicts: &mut [u8], findings: &mut [u8])
     requires { ⌜ (index < length (now verdicts)) × (8 * (index + 1) ≤ length (now findings)) ⌝ }
-    ensures { λ _. ⌜ ((s : List Bool) → set ≡ setOf s → Written index (verdict ∷ []) (s ∷ []) (now (verdicts .entry)) (now (findings .entry)) (now (verdicts .exit)) (now (findings .exit))) ⌝ }
+    ensures { λ _. ⌜ ((s : List Bool) → set ≡ setOf s
+        → Written index (verdict ∷ []) (s ∷ [])
+        (now (verdicts .entry)) (now (findings .entry)) (now (verdicts .exit)) (now (findings .exit))) ⌝ }
 {
     verdicts[index] = verdict;
     let end = 8 * (index + 1);

@@ -14,7 +14,8 @@ use Rattle.format.specs.Fields.{areDigits, numberOf}
 use Rattle.rules.specs.Records.{isType, isPublisher, only, any}
 use Rattle.rules.specs.Publisher.{sequenceNumber, inChain, chain, isE, isAQ, eSPU, earlierE}
 use Rattle.rules.specs.Totals.{PR, MR, SR, publisherShare}
-use Rattle.rules.specs.Chains.{anyBelow, anyChain, manyE, joinedByOPU, aqAfterPaidE, allShares, countsSPU, paidE, begunBySPU, shareless, is11, is12, is13, is14}
+use Rattle.rules.specs.Chains.{anyBelow, anyChain, manyE, joinedByOPU, aqAfterPaidE, allShares, countsSPU, paidE, begunBySPU, shareless}
+use Rattle.rules.specs.Chains.{is11, is12, is13, is14}
 use Rattle.rules.proofs.Lists.{any-last, count-last, sum-only-last, only-fewer, sum-most}
 use Rattle.rules.proofs.Fields.{all-shares-most}
 use Rattle.chains.specs.Tallies.{begunBy, ownShares, TallyOf, Chains, Tallied, Small}
@@ -46,7 +47,8 @@ has-share zero zero c = let e : 0 + 0 + c ≡ c = omega arith in rw e
 publisher-in : (k : ℕ) (r : Bytes) → inChain k r ≡ true → isPublisher r ≡ true
 publisher-in k r e = and-eq-true-iff _ _ .0 (and-eq-true-iff (isPublisher r && areDigits (sequenceNumber r)) _ .0 e .0) .0
 
-pub in-chain : (k : ℕ) (r : Bytes) → isPublisher r ≡ true → areDigits (sequenceNumber r) ≡ true → numberOf (sequenceNumber r) ≡ k → inChain k r ≡ true
+pub in-chain : (k : ℕ) (r : Bytes) → isPublisher r ≡ true → areDigits (sequenceNumber r) ≡ true → numberOf (sequenceNumber r) ≡ k
+    → inChain k r ≡ true
 in-chain k r p d n = rw (p, d) (eq-eqb (numberOf (sequenceNumber r)) k n)
 
 -- as `join` writes it
@@ -110,7 +112,8 @@ with-more c k ds r spu e aq shares h t inside p q s n = rw (← p, ← q, ← s,
 -- ---- a record in no chain
 
 module _ (c : Chains) (ds : List Bytes) (r : Bytes) (t : Tallied c ds) where
-  flag-left : (p : List Bytes → Bool) (flag : Bool) → ((k : ℕ) → k < 100 → inChain k r ≡ false) → flag ≡ anyChain p ds → flag ≡ anyChain p (ds ++ r ∷ [])
+  flag-left : (p : List Bytes → Bool) (flag : Bool) → ((k : ℕ) → k < 100 → inChain k r ≡ false) → flag ≡ anyChain p ds
+      → flag ≡ anyChain p (ds ++ r ∷ [])
   flag-left p flag out e = e ∙ sym (below-left p ds r 100 out)
 
   pub outside : ((k : ℕ) → k < 100 → inChain k r ≡ false) → Tallied c (ds ++ r ∷ [])
@@ -141,7 +144,18 @@ tally-none : {A : Type 0} (x : A) (f : List Bytes → A) → f [] ≡ x → Tall
 unfolding chain
 tally-none {A} x f e = record { long = length-replicate 100 x; at = λ k h. getD-replicate {A = A} 100 k x x h ∙ sym e }
 
-pub begins : Tallied (record { begun = replicate 100 0; es = replicate 100 0; own = replicate 100 false; paid = replicate 100 false; sums = replicate 100 0; many = false; joined = false; kept = false }) []
+pub begins : Tallied
+    (record {
+      begun = replicate 100 0;
+      es = replicate 100 0;
+      own = replicate 100 false;
+      paid = replicate 100 false;
+      sums = replicate 100 0;
+      many = false;
+      joined = false;
+      kept = false;
+    })
+    []
 unfolding chain is11 is13 is14
 begins =
     record {
@@ -204,8 +218,10 @@ found-below : (begun sums : List ℕ) (ds : List Bytes) → TallyOf begun 0 begu
     → foundBelow begun sums n ≡ anyBelow n shareless ds
 found-below begun sums ds b t zero h = refl
 found-below begun sums ds b t (suc n) h =
-    rw (b .at n h, t .at n h, begun-spu (chain n ds), found-below begun sums ds b t n (omega arith)) (or-comm (anyBelow n shareless ds) (shareless (chain n ds)))
+    rw (b .at n h, t .at n h, begun-spu (chain n ds), found-below begun sums ds b t n (omega arith))
+    (or-comm (anyBelow n shareless ds) (shareless (chain n ds)))
 
-pub found-is : (begun sums : List ℕ) (ds : List Bytes) → TallyOf begun 0 begunBy ds → TallyOf sums 0 ownShares ds → foundBelow begun sums 100 ≡ is12 ds
+pub found-is : (begun sums : List ℕ) (ds : List Bytes) → TallyOf begun 0 begunBy ds → TallyOf sums 0 ownShares ds
+    → foundBelow begun sums 100 ≡ is12 ds
 unfolding is12
 found-is begun sums ds b t = found-below begun sums ds b t 100 (omega arith)

@@ -41,7 +41,11 @@ pub fn join(
     sums: &mut [u64; 100],
 ) -> Met
     requires { ⌜ (k < 100) × (shares ≤ 299997) × Small (now es) (now sums) ⌝ }
-    ensures { λ m. ⌜ ((ds : List Bytes) (r : Bytes) → Tallied (chainsOf (now (begun .entry)) (now (es .entry)) (now (own .entry)) (now (paid .entry)) (now (sums .entry)) met) ds → inChain k r ≡ true → isType "SPU" r ≡ spu → isE r ≡ e → isAQ r ≡ aq → allShares r ≡ shares → Tallied (chainsOf (now (begun .exit)) (now (es .exit)) (now (own .exit)) (now (paid .exit)) (now (sums .exit)) m) (ds ++ r ∷ [])) ⌝ }
+    ensures { λ m. ⌜ ((ds : List Bytes) (r : Bytes)
+        → Tallied (chainsOf (now (begun .entry)) (now (es .entry)) (now (own .entry)) (now (paid .entry)) (now (sums .entry)) met) ds
+        → inChain k r ≡ true → isType "SPU" r ≡ spu → isE r ≡ e → isAQ r ≡ aq → allShares r ≡ shares
+        → Tallied (chainsOf (now (begun .exit)) (now (es .exit)) (now (own .exit)) (now (paid .exit)) (now (sums .exit)) m)
+        (ds ++ r ∷ [])) ⌝ }
 {
     let first = begun[k];
     let count = es[k];
@@ -63,7 +67,8 @@ pub fn join(
 // Whether chain k has an SPU of type E, for finding 32.
 pub fn knows_e(k: usize, own: &[bool; 100]) -> bool
     requires { ⌜ k < 100 ⌝ }
-    ensures { λ b. ⌜ ((ds : List Bytes) (r : Bytes) → TallyOf (now (own .entry)) false (any eSPU) ds → inChain k r ≡ true → b ≡ earlierE ds r) ⌝ }
+    ensures { λ b. ⌜ ((ds : List Bytes) (r : Bytes) → TallyOf (now (own .entry)) false (any eSPU) ds → inChain k r ≡ true
+        → b ≡ earlierE ds r) ⌝ }
 {
     own[k]
 }

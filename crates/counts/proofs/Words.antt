@@ -29,10 +29,12 @@ unfolding words
 words-digits x y m n e f = rw (digits-kept x m e, digits-kept y n f)
 
 -- GRT counts itself
-pub closing : (g t r m n : ℕ) → t ≡ wordOf (decimal 8 m) → r ≡ wordOf (decimal 8 (n + 1)) → decimal 5 g ++ words t r ≡ decimal 5 g ++ decimal 8 m ++ decimal 8 (suc n)
+pub closing : (g t r m n : ℕ) → t ≡ wordOf (decimal 8 m) → r ≡ wordOf (decimal 8 (n + 1))
+    → decimal 5 g ++ words t r ≡ decimal 5 g ++ decimal 8 m ++ decimal 8 (suc n)
 closing g t r m n e f = ap (λ (x : Bytes). decimal 5 g ++ x) (words-digits t r m (n + 1) e f) ∙ rw (add-one, append-assoc)
 
-pub picked : (first : Bool) (a b m n : ℕ) → a ≡ wordOf (decimal 8 m) → b ≡ wordOf (decimal 8 n) → cond first a b ≡ wordOf (decimal 8 (cond first m n))
+pub picked : (first : Bool) (a b m n : ℕ) → a ≡ wordOf (decimal 8 m) → b ≡ wordOf (decimal 8 n)
+    → cond first a b ≡ wordOf (decimal 8 (cond first m n))
 picked true a b m n e f = e
 picked false a b m n e f = f
 

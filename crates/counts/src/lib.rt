@@ -159,7 +159,8 @@ impl Counts {
     pub fn put(self, place: u8, out: &mut [u8])
         requires { ⌜ CanGrow self ⌝ }
         requires { ⌜ at (classAt place) + width (classAt place) ≤ length (now out) ⌝ }
-        ensures { λ _. ⌜ now (out .exit) ≡ take (at (classAt place)) (now (out .entry)) ++ expected (tally self) (classAt place) ++ drop (at (classAt place) + width (classAt place)) (now (out .entry)) ⌝ }
+        ensures { λ _. ⌜ now (out .exit) ≡ take (at (classAt place)) (now (out .entry)) ++ expected (tally self) (classAt place)
+            ++ drop (at (classAt place) + width (classAt place)) (now (out .entry)) ⌝ }
     {
         self.numbers_for(place).write_into(out)
     }

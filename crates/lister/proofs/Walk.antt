@@ -78,16 +78,16 @@ going-start f v g start old l room =
       few = omega arith;
     }
 
-pub going-end : (f v g : Bytes) (start : ℕ) (old new : Bytes) (i n p : ℕ) → Going f v g start old new i n p → length f ≤ i
+pub going-end : {f v g : Bytes} {start : ℕ} {old new : Bytes} {i n p : ℕ} → Going f v g start old new i n p → length f ≤ i
     → Put start (linesFrom v g 0 (recordsIn (lines f))) old new p
 unfolding lines linesFrom
-going-end f v g start old new i n p G h =
+going-end {f} {v} {g} G h =
     let e : G .done ≡ linesFrom v g 0 (recordsIn (lines f)) = sym (append-nil (G .done)) ∙ (rw (drop-of-length-le f h) at (G .owed)) in
     rw e at (G .put)
 
 -- ---- one record more
 
-module _ (f v g : Bytes) (start : ℕ) (old new : Bytes) (i n p : ℕ) (G : Going f v g start old new i n p) (here : i < length f) where
+module _ {f v g : Bytes} {start : ℕ} {old new : Bytes} {i n p : ℕ} (G : Going f v g start old new i n p) (here : i < length f) where
   -- its three bytes of type, and CR LF
   pub five-bytes : i + 5 ≤ length f
   five-bytes = omega (arith, here-three f i here (G .fine) (G .all), fits f i here (G .fine))

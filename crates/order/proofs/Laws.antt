@@ -113,7 +113,8 @@ reached-on ds r e =
     ∙ ap (walk (some outset)) (map-append (take 3) (only (λ q. not (is24 q)) ds) (r ∷ []))
     ∙ walk-last (some outset) (countedTypes ds) (take 3 r)
 
-fit-column : (fits : Spot → Bool) (n k : ℕ) (qs : List Spot) → firstFit fits (column n k qs) ≡ cond (ltb 0 n && fits (spot n k)) (some (spot n k)) (firstFit fits qs)
+fit-column : (fits : Spot → Bool) (n k : ℕ) (qs : List Spot)
+    → firstFit fits (column n k qs) ≡ cond (ltb 0 n && fits (spot n k)) (some (spot n k)) (firstFit fits qs)
 fit-column fits n k qs = by-cases (ltb 0 n) (λ e. rw e) (λ e. rw e)
 
 -- a choice among the three columns
@@ -130,7 +131,14 @@ module _ (o : Order) (kind : Row) (type : Bytes) (its : kind ≡ rowFor type) wh
       let f : Spot → Bool = mayTake type (spotOf o) in
       let s : spots type ≡ spotsOf kind = sym (stage-spots type) ∙ sym (ap spotsOf its) in
       let b : begins type ≡ kind .alone = sym (alone-begins type) ∙ sym (ap (λ (k : Row). k .alone) its) in
-      rw (s, fit-column f (kind .first) (kind .rank) (column (kind .second) (kind .rank) (column (kind .third) (kind .rank) [])), fit-column f (kind .second) (kind .rank) (column (kind .third) (kind .rank) []), fit-column f (kind .third) (kind .rank) [], b)
+      let third = column (kind .third) (kind .rank) [] in
+      rw (
+        s,
+        fit-column f (kind .first) (kind .rank) (column (kind .second) (kind .rank) third),
+        fit-column f (kind .second) (kind .rank) third,
+        fit-column f (kind .third) (kind .rank) [],
+        b,
+      )
 
   on-chosen : on (standing o) type ≡ cond (o .broken) none (chosen o kind)
   on-chosen = by-cases (o .broken) (λ e. rw e) (λ e. rw e taken-chosen)
@@ -139,7 +147,8 @@ pub either-none : (b : Bool) → _≡_ {A = Option Spot} (cond b none none) none
 either-none true = refl
 either-none false = refl
 
-module _ (o : Order) (kind : Row) (ds : List Bytes) (r : Bytes) (its : kind ≡ rowFor (take 3 r)) (d : cls cwr22 r ≡ detail) (stands : standing o ≡ reached ds) where
+module _ (o : Order) (kind : Row) (ds : List Bytes) (r : Bytes) (its : kind ≡ rowFor (take 3 r)) (d : cls cwr22 r ≡ detail)
+    (stands : standing o ≡ reached ds) where
   none-24 : eqb (kind .first) 0 ≡ is24 r
   none-24 = ap (λ (k : Row). eqb (k .first) 0) its ∙ passed-over r d
 

@@ -32,7 +32,8 @@ impl Order {
 
     // After one record more, of that row. A type with no spot is one of finding 24 and is passed over.
     pub fn with(self, row: Row) -> Order
-        ensures { λ o. ⌜ ((ds : List Bytes) (r : Bytes) → row ≡ rowFor (take 3 r) → cls cwr22 r ≡ detail → standing self ≡ reached ds → standing o ≡ reached (ds ++ r ∷ [])) ⌝ }
+        ensures { λ o. ⌜ ((ds : List Bytes) (r : Bytes) → row ≡ rowFor (take 3 r) → cls cwr22 r ≡ detail → standing self ≡ reached ds
+            → standing o ≡ reached (ds ++ r ∷ [])) ⌝ }
     {
         if row.first == 0 {
             return self;

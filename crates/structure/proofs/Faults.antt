@@ -49,7 +49,8 @@ module _ (asked version : Bool) (m : Met) (p : ℕ) (n : Counts) where
     end-place i h e = rw (e, none7, at-trl, ne-eqb 5 p (λ q. h (sym q)))
 
     module _ (last : p ≡ 5) where
-      ended : atEnd cwr22 asked version (faultsOf m) (classAt p) n ≡ refusal 8 (met (m .eight)) (refusal 9 (met (m .nine)) (versionFrom cwr22 asked version n))
+      ended : atEnd cwr22 asked version (faultsOf m) (classAt p) n
+          ≡ refusal 8 (met (m .eight)) (refusal 9 (met (m .nine)) (versionFrom cwr22 asked version n))
       unfolding atEnd
       ended = rw (none7, at-trl, eq-eqb 5 p (sym last))
 

@@ -32,4 +32,7 @@ test-class grt b = refl
 test-class trl b = refl
 
 pub may-follow : (p c : ℕ) → p ≤ 6 → c ≤ 6 → test p c ≡ mayFollow (classAt p) (classAt c)
-may-follow p c h k = sym (ap (λ (n : ℕ). test n c) (code-class p h)) ∙ sym (ap (λ (n : ℕ). test (code (classAt p)) n) (code-class c k)) ∙ test-class (classAt p) (classAt c)
+may-follow p c h k =
+    sym (ap (λ (n : ℕ). test n c) (code-class p h))
+    ∙ sym (ap (λ (n : ℕ). test (code (classAt p)) n) (code-class c k))
+    ∙ test-class (classAt p) (classAt c)

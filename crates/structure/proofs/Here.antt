@@ -29,7 +29,8 @@ use Rattle.structure.proofs.Rows.{row-class, row-typed, row-room}
 
 -- ---- good lines that are not at their end begin with a line
 
-good-onto : (r : Bytes) (ls : Lines) → isGood (onto (r ∷ []) ls) ≡ true → (isGood ls ≡ true) × (recordsIn (onto (r ∷ []) ls) ≡ r ∷ recordsIn ls)
+good-onto : (r : Bytes) (ls : Lines) → isGood (onto (r ∷ []) ls) ≡ true
+    → (isGood ls ≡ true) × (recordsIn (onto (r ∷ []) ls) ≡ r ∷ recordsIn ls)
 good-onto r (good rs) e = (refl, refl)
 good-onto r (bad k) e = absurd (false≢true e)
 
@@ -37,7 +38,8 @@ module _ (t : Bytes) (some : 0 < length t) (fine : isGood (lines t) ≡ true) wh
   pub good-pair : beginsPair (drop (textLength t) t) ≡ true
   good-pair = by-cases (beginsPair (drop (textLength t) t)) (λ e. e) (λ e. absurd (false≢true (sym (ap isGood (line-fault t some e)) ∙ fine)))
 
-  pub good-first : (isGood (lines (drop (textLength t + 2) t)) ≡ true) × (recordsIn (lines t) ≡ take (textLength t) t ∷ recordsIn (lines (drop (textLength t + 2) t)))
+  pub good-first : (isGood (lines (drop (textLength t + 2) t)) ≡ true)
+      × (recordsIn (lines t) ≡ take (textLength t) t ∷ recordsIn (lines (drop (textLength t + 2) t)))
   good-first =
       let e = line-first (textLength t) t (text-front t) good-pair in
       let (g, r) = good-onto (take (textLength t) t) (lines (drop (textLength t + 2) t)) (sym (ap isGood e) ∙ fine) in
@@ -72,8 +74,11 @@ module _ (f : Bytes) (i : ℕ) (here : i < length f) (fine : isGood (lines (drop
   -- with its CR LF
   pub line-here : take (textLength (drop i f) + 2) (drop i f) ≡ recordAt f i ++ 13 ∷ 10 ∷ []
   line-here =
-      let n : length (recordAt f i ++ 13 ∷ 10 ∷ []) ≡ textLength (drop i f) + 2 = length-append (recordAt f i) (13 ∷ 10 ∷ []) ∙ omega (arith, long) in
-      ap (take (textLength (drop i f) + 2)) (pair-after (textLength (drop i f)) (drop i f) (good-pair (drop i f) some fine) ∙ sym (append-assoc (recordAt f i) (13 ∷ 10 ∷ []) _))
+      let n : length (recordAt f i ++ 13 ∷ 10 ∷ []) ≡ textLength (drop i f) + 2 =
+      length-append (recordAt f i) (13 ∷ 10 ∷ []) ∙ omega (arith, long) in
+      ap (take (textLength (drop i f) + 2))
+      (pair-after (textLength (drop i f)) (drop i f) (good-pair (drop i f) some fine)
+      ∙ sym (append-assoc (recordAt f i) (13 ∷ 10 ∷ []) _))
       ∙ take-at (recordAt f i ++ 13 ∷ 10 ∷ []) _ (textLength (drop i f) + 2) n
 
 -- ---- and where all records are right by 6
@@ -100,7 +105,9 @@ module _ (f : Bytes) (i : ℕ) (here : i < length f) (fine : isGood (lines (drop
     pub row-size : row .length ≡ textLength (drop i f)
     row-size =
         let e = sym (row-typed (recordAt f i) row its-own) ∙ is-true (typed cwr22 (recordAt f i)) here-typed in
-        sym (eqb-true (length (recordAt f i)) (row .length) (and-eq-true-iff (not (eqb (row .place) 6)) (eqb (length (recordAt f i)) (row .length)) .0 e .1)) ∙ long f i here fine
+        sym (eqb-true (length (recordAt f i)) (row .length)
+        (and-eq-true-iff (not (eqb (row .place) 6)) (eqb (length (recordAt f i)) (row .length)) .0 e .1))
+        ∙ long f i here fine
 
     pub row-numbers : at (classAt (row .place)) + width (classAt (row .place)) ≤ length (recordAt f i)
     row-numbers = row-room (recordAt f i) row its-own (is-true (typed cwr22 (recordAt f i)) here-typed)

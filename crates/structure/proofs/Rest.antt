@@ -40,10 +40,16 @@ asked-less false false x e = e
 
 module _ (𝕋 : Table) (asked version : Bool) where
   pub judged-turn : (m : Faults) (p : Class) (n : Counts) (r : Bytes) (rs : List Bytes) → typed 𝕋 r ≡ true
-      → judgedFrom 𝕋 asked version m p n (r ∷ rs) ≡ judgedFrom 𝕋 asked version (moreFaults 𝕋 asked m p n r) (cls 𝕋 r) (count n (cls 𝕋 r)) rs
+      → judgedFrom 𝕋 asked version m p n (r ∷ rs)
+      ≡ judgedFrom 𝕋 asked version (moreFaults 𝕋 asked m p n r) (cls 𝕋 r) (count n (cls 𝕋 r)) rs
   unfolding judgedFrom moreFaults
   judged-turn m p n r rs t =
-      rw (t, turn (check7 𝕋) p (n .records) r rs (m .seven), turn (asked8 𝕋 asked) n (n .records) r rs (m .eight), turn (asked9 𝕋 asked) n (n .records) r rs (m .nine))
+      rw (
+        t,
+        turn (check7 𝕋) p (n .records) r rs (m .seven),
+        turn (asked8 𝕋 asked) n (n .records) r rs (m .eight),
+        turn (asked9 𝕋 asked) n (n .records) r rs (m .nine),
+      )
 
   pub judged-type : (m : Faults) (p : Class) (n : Counts) (r : Bytes) (rs : List Bytes) → typed 𝕋 r ≡ false
       → judgedFrom 𝕋 asked version m p n (r ∷ rs) ≡ refused 6 (n .records)
@@ -65,7 +71,11 @@ module _ (𝕋 : Table) (asked version : Bool) where
     where
       no-fault : moreFaults 𝕋 asked faultless p n r ≡ faultless
       no-fault =
-          rw (s, asked-less (not asked) (closes (cls 𝕋 r)) (rightlyNumbered 𝕋 n r) q, asked-less (not asked) (not (closes (cls 𝕋 r))) (rightlyNumbered 𝕋 n r) q)
+          rw (
+            s,
+            asked-less (not asked) (closes (cls 𝕋 r)) (rightlyNumbered 𝕋 n r) q,
+            asked-less (not asked) (not (closes (cls 𝕋 r))) (rightlyNumbered 𝕋 n r) q,
+          )
 
       go : (ls : Lines) → linesFrom 𝕋 asked version p n (onto (r ∷ []) ls) ≡ linesFrom 𝕋 asked version (cls 𝕋 r) (count n (cls 𝕋 r)) ls
       go (bad k) = ap (refused 4) (omega arith)

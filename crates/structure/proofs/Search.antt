@@ -67,7 +67,11 @@ module _ (f : Bytes) (asked version : Bool) (s : Stand) (m : Met) (answer : Answ
 
       module _ (z : shaped ≡ true) where
         size : row .length ≡ textLength (drop (s .at) f)
-        size = sym (eqb-true (length r) (row .length) (and-eq-true-iff (not (eqb (row .place) 6)) (eqb (length r) (row .length)) .0 (sym test ∙ z) .1)) ∙ ap length cut ∙ long f (s .at) here (J .fine)
+        size =
+            sym (eqb-true (length r) (row .length)
+            (and-eq-true-iff (not (eqb (row .place) 6)) (eqb (length r) (row .length)) .0 (sym test ∙ z) .1))
+            ∙ ap length cut
+            ∙ long f (s .at) here (J .fine)
 
         pub judging-on : (next : Stand) → Next s (row .length) (row .place) next
             → (more : Met) → faultsOf more ≡ moreFaults cwr22 asked (faultsOf m) (classAt (s .place)) (tally (s .counts)) r

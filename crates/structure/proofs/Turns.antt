@@ -57,7 +57,8 @@ module _ (t : Bytes) (row : Row) (its : row ≡ rowFor (take 3 t)) where
         ∙ rw (← c)
 
 -- the stand after a record is bounded as the one before it was
-pub bounded-on : (f : Bytes) (s : Stand) (l p : ℕ) (next : Stand) → Bounded f s → p ≤ 6 → s .at + l + 2 ≤ length f → Next s l p next → Bounded f next
+pub bounded-on : (f : Bytes) (s : Stand) (l p : ℕ) (next : Stand) → Bounded f s → p ≤ 6 → s .at + l + 2 ≤ length f → Next s l p next
+    → Bounded f next
 bounded-on f s l p next b h k x =
     record {
       inside = rw (x .at) k;

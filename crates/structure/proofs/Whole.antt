@@ -36,7 +36,8 @@ module _ (asked version : Bool) (p : Class) (n : Counts) (i : ℕ) (e : i ≡ n 
   lines-good (good rs) k q = refl
   lines-good (bad j) k q = absurd (never k (i + j) (sym q))
 
-  pub lines-many : (ls : Lines) (k : ℕ) → scanned i ls ≡ scan.Lines k → mostRecords < k → refused 5 mostRecords ≡ linesFrom cwr22 asked version p n ls
+  pub lines-many : (ls : Lines) (k : ℕ) → scanned i ls ≡ scan.Lines k → mostRecords < k
+      → refused 5 mostRecords ≡ linesFrom cwr22 asked version p n ls
   unfolding linesFrom
   lines-many (good rs) k q h =
       let s : i + length rs ≡ k = cc in
@@ -59,7 +60,8 @@ first-line [] e = refl
 first-line (b ∷ f) e = ap firstOf (good-first (b ∷ f) (omega arith) e .1)
 
 -- where the lines are not good, 10 is not reached
-version-any : (asked v w : Bool) (p : Class) (n : Counts) (ls : Lines) → isGood ls ≡ false → linesFrom cwr22 asked v p n ls ≡ linesFrom cwr22 asked w p n ls
+version-any : (asked v w : Bool) (p : Class) (n : Counts) (ls : Lines) → isGood ls ≡ false
+    → linesFrom cwr22 asked v p n ls ≡ linesFrom cwr22 asked w p n ls
 unfolding linesFrom
 version-any asked v w p n (good rs) e = absurd (false≢true (sym e))
 version-any asked v w p n (bad k) e = refl

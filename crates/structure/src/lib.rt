@@ -210,7 +210,8 @@ fn ended(version: bool, s: Stand, m: Met) -> Answer
 // 6 to 10, from here on, where the lines are good.
 fn judge(file: &[u8], asked: bool, version: bool, start: Stand) -> Answer
     requires { ⌜ (Bounded (now file) start) × (length (now file) ≤ mostBytes) × (isGood (lines (drop (start .at) (now file))) ≡ true) ⌝ }
-    ensures { λ r. ⌜ answerOf r ≡ judgedFrom cwr22 asked version faultless (classAt (start .place)) (tally (start .counts)) (recordsIn (lines (drop (start .at) (now (file .entry))))) ⌝ }
+    ensures { λ r. ⌜ answerOf r ≡ judgedFrom cwr22 asked version faultless (classAt (start .place)) (tally (start .counts))
+        (recordsIn (lines (drop (start .at) (now (file .entry))))) ⌝ }
 {
     let mut s = start;
     let mut m = Met {

@@ -25,10 +25,18 @@ use Rattle.edits.proofs.Before.{last-more}
 -- ---- what a record is not
 
 pub publisher-unmarked : (r : Bytes) → isPublisher r ≡ true → (isInstrument r ≡ false) × (isType "EWT" r ≡ false) × (isType "VER" r ≡ false)
-publisher-unmarked r e = of-two "SPU" "OPU" r (λ t. ((sameBytes (ascii "INS") t || sameBytes (ascii "IND") t) ≡ false) × (sameBytes (ascii "EWT") t ≡ false) × (sameBytes (ascii "VER") t ≡ false)) (refl, refl, refl) (refl, refl, refl) e
+publisher-unmarked r e =
+    of-two "SPU" "OPU" r
+    (λ type. ((sameBytes (ascii "INS") type || sameBytes (ascii "IND") type) ≡ false)
+    × (sameBytes (ascii "EWT") type ≡ false) × (sameBytes (ascii "VER") type ≡ false))
+    (refl, refl, refl) (refl, refl, refl) e
 
 pub instrument-neither : (r : Bytes) → isInstrument r ≡ true → (isPublisher r ≡ false) × (isWriter r ≡ false)
-instrument-neither r e = of-two "INS" "IND" r (λ t. ((sameBytes (ascii "SPU") t || sameBytes (ascii "OPU") t) ≡ false) × ((sameBytes (ascii "SWR") t || sameBytes (ascii "OWR") t) ≡ false)) (refl, refl) (refl, refl) e
+instrument-neither r e =
+    of-two "INS" "IND" r
+    (λ type. ((sameBytes (ascii "SPU") type || sameBytes (ascii "OPU") type) ≡ false)
+    × ((sameBytes (ascii "SWR") type || sameBytes (ascii "OWR") type) ≡ false))
+    (refl, refl) (refl, refl) e
 
 -- ---- designations by their place
 
@@ -68,4 +76,7 @@ below-kept t ds r b =
 
 -- within the size limits no total comes near 2 to the 60
 pub below-limits : (t : Totals) (ds : List Bytes) → length ds ≤ mostRecords → Below (99999 * length ds) t → Below (2 ^ 60) t
-below-limits t ds few b = ((omega (arith, b .0 .0), omega (arith, b .0 .1), omega (arith, b .0 .2)), (omega (arith, b .1 .0), omega (arith, b .1 .1), omega (arith, b .1 .2)))
+below-limits t ds few b = (
+  (omega (arith, b .0 .0), omega (arith, b .0 .1), omega (arith, b .0 .2)),
+  (omega (arith, b .1 .0), omega (arith, b .1 .1), omega (arith, b .1 .2)),
+)

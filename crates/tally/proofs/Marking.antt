@@ -75,7 +75,8 @@ marked m w c g a i e v =
 
 module _ (m : Marks) (ds : List Bytes) (r : Bytes) (h : Marked m ds) where
   marked-on : (w c g a i e v : Bool) → isWriter r ≡ w → isInstrument r ≡ i → isType "EWT" r ≡ e → isType "VER" r ≡ v
-      → (w ≡ true → among (designationInForce r) creators ≡ c) → (w ≡ true → among (designationInForce r) changers ≡ g) → (w ≡ true → among (designationInForce r) authors ≡ a)
+      → (w ≡ true → among (designationInForce r) creators ≡ c) → (w ≡ true → among (designationInForce r) changers ≡ g)
+      → (w ≡ true → among (designationInForce r) authors ≡ a)
       → Marked (marked m w c g a i e v) (ds ++ r ∷ [])
   marked-on w c g a i e v is-w is-i is-e is-v is-c is-g is-a =
       record {
@@ -93,13 +94,16 @@ module _ (m : Marks) (ds : List Bytes) (r : Bytes) (h : Marked m ds) where
   -- no writer, so no designation is asked for
   other-on : (i e v : Bool) → isWriter r ≡ false → isInstrument r ≡ i → isType "EWT" r ≡ e → isType "VER" r ≡ v
       → Marked (marked m false false false false i e v) (ds ++ r ∷ [])
-  other-on i e v is-w is-i is-e is-v = marked-on false false false false i e v is-w is-i is-e is-v (λ q. absurd (false≢true q)) (λ q. absurd (false≢true q)) (λ q. absurd (false≢true q))
+  other-on i e v is-w is-i is-e is-v =
+      marked-on false false false false i e v is-w is-i is-e is-v (λ q. absurd (false≢true q)) (λ q. absurd (false≢true q))
+      (λ q. absurd (false≢true q))
 
   -- a record of none of the types leaves the marks as they are
   pub unmarked : isWriter r ≡ false → isInstrument r ≡ false → isType "EWT" r ≡ false → isType "VER" r ≡ false → Marked m (ds ++ r ∷ [])
   unmarked is-w is-i is-e is-v = other-on false false false is-w is-i is-e is-v
 
-  pub writer-on : (c g a : Bool) → isWriter r ≡ true → among (designationInForce r) creators ≡ c → among (designationInForce r) changers ≡ g → among (designationInForce r) authors ≡ a
+  pub writer-on : (c g a : Bool) → isWriter r ≡ true → among (designationInForce r) creators ≡ c
+      → among (designationInForce r) changers ≡ g → among (designationInForce r) authors ≡ a
       → Marked (marked m true c g a false false false) (ds ++ r ∷ [])
   writer-on c g a is-w is-c is-g is-a =
       marked-on true c g a false false false is-w

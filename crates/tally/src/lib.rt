@@ -49,7 +49,8 @@ impl Tally {
     // After one publisher record more.
     pub fn with_publisher(self, row: Row, sequence: u64, shares: Rights) -> Tally
         requires { ⌜ Below (2 ^ 60) (self .totals) × AtMost 99999 shares ⌝ }
-        ensures { λ y. ⌜ ((ds : List Bytes) (r : Bytes) → Known self ds → Detail row r → isPublisher r ≡ true → sequence ≡ sequenceOf r → shares ≡ rights (λ right. publisherShare right r) → Known y (ds ++ r ∷ [])) ⌝ }
+        ensures { λ y. ⌜ ((ds : List Bytes) (r : Bytes) → Known self ds → Detail row r → isPublisher r ≡ true
+            → sequence ≡ sequenceOf r → shares ≡ rights (λ right. publisherShare right r) → Known y (ds ++ r ∷ [])) ⌝ }
     {
         let totals = self.totals;
         let order = self.order;
@@ -67,7 +68,9 @@ impl Tally {
     // After one writer record more, whose designation has that place in the table.
     pub fn with_writer(self, row: Row, place: u8, shares: Rights) -> Tally
         requires { ⌜ Below (2 ^ 60) (self .totals) × AtMost 99999 shares ⌝ }
-        ensures { λ y. ⌜ ((ds : List Bytes) (r : Bytes) → Known self ds → Detail row r → isWriter r ≡ true → place ≡ placeOf (designationInForce r) designations → shares ≡ rights (λ right. writerShare right r) → Known y (ds ++ r ∷ [])) ⌝ }
+        ensures { λ y. ⌜ ((ds : List Bytes) (r : Bytes) → Known self ds → Detail row r → isWriter r ≡ true
+            → place ≡ placeOf (designationInForce r) designations → shares ≡ rights (λ right. writerShare right r)
+            → Known y (ds ++ r ∷ [])) ⌝ }
     {
         let totals = self.totals;
         let order = self.order;
@@ -116,7 +119,8 @@ impl Tally {
 
     // After one detail more that is none of these.
     pub fn with_other(self, row: Row) -> Tally
-        ensures { λ y. ⌜ ((ds : List Bytes) (r : Bytes) → Known self ds → Detail row r → isPublisher r ≡ false → isWriter r ≡ false → isInstrument r ≡ false → isType "EWT" r ≡ false → isType "VER" r ≡ false → Known y (ds ++ r ∷ [])) ⌝ }
+        ensures { λ y. ⌜ ((ds : List Bytes) (r : Bytes) → Known self ds → Detail row r → isPublisher r ≡ false → isWriter r ≡ false
+            → isInstrument r ≡ false → isType "EWT" r ≡ false → isType "VER" r ≡ false → Known y (ds ++ r ∷ [])) ⌝ }
     {
         let marks = self.marks;
         self.moved(row, marks)
@@ -124,7 +128,8 @@ impl Tally {
 
     // After a detail that is neither publisher nor writer, with these marks.
     fn moved(self, row: Row, marks: Marks) -> Tally
-        ensures { λ y. ⌜ ((ds : List Bytes) (r : Bytes) → Known self ds → Detail row r → isPublisher r ≡ false → isWriter r ≡ false → Marked marks (ds ++ r ∷ []) → Known y (ds ++ r ∷ [])) ⌝ }
+        ensures { λ y. ⌜ ((ds : List Bytes) (r : Bytes) → Known self ds → Detail row r → isPublisher r ≡ false → isWriter r ≡ false
+            → Marked marks (ds ++ r ∷ []) → Known y (ds ++ r ∷ [])) ⌝ }
     {
         let totals = self.totals;
         let order = self.order;

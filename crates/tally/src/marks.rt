@@ -44,7 +44,9 @@ impl Marks {
 
     // After one writer record more, whose designation is or is not among the creators, the changers and the authors.
     pub fn with_writer(mut self, creator: bool, changer: bool, author: bool) -> Marks
-        ensures { λ m. ⌜ ((ds : List Bytes) (r : Bytes) → Marked self ds → isWriter r ≡ true → among (designationInForce r) creators ≡ creator → among (designationInForce r) changers ≡ changer → among (designationInForce r) authors ≡ author → Marked m (ds ++ r ∷ [])) ⌝ }
+        ensures { λ m. ⌜ ((ds : List Bytes) (r : Bytes) → Marked self ds → isWriter r ≡ true
+            → among (designationInForce r) creators ≡ creator → among (designationInForce r) changers ≡ changer
+            → among (designationInForce r) authors ≡ author → Marked m (ds ++ r ∷ [])) ⌝ }
     {
         self.writer = true;
         self.creator = creator | self.creator;
@@ -55,7 +57,8 @@ impl Marks {
 
     // After one INS or IND more.
     pub fn with_instrument(mut self) -> Marks
-        ensures { λ m. ⌜ ((ds : List Bytes) (r : Bytes) → Marked self ds → (isType "INS" r || isType "IND" r) ≡ true → Marked m (ds ++ r ∷ [])) ⌝ }
+        ensures { λ m. ⌜ ((ds : List Bytes) (r : Bytes) → Marked self ds → (isType "INS" r || isType "IND" r) ≡ true
+            → Marked m (ds ++ r ∷ [])) ⌝ }
     {
         self.instrument = true;
         self

@@ -21,7 +21,8 @@ module _ (share : Right → Bytes → ℕ) (p : Bytes → Bool) (ds : List Bytes
   summed : (right : Right) → p r ≡ true → sumOf (share right) (only p (ds ++ r ∷ [])) ≡ sumOf (share right) (only p ds) + share right r
   summed right e = ap (sumOf (share right)) (only-kept p ds r e) ∙ sum-last (share right) (only p ds) r
 
-  more : (total shares : Rights) → total ≡ rights (λ right. sumOf (share right) (only p ds)) → shares ≡ rights (λ right. share right r) → p r ≡ true
+  more : (total shares : Rights) → total ≡ rights (λ right. sumOf (share right) (only p ds))
+      → shares ≡ rights (λ right. share right r) → p r ≡ true
       → plus total shares ≡ rights (λ right. sumOf (share right) (only p (ds ++ r ∷ [])))
   more total shares t s e = rw (t, s) (alike (λ right. sumOf (share right) (only p ds) + share right r) _ (λ right. sym (summed right e)))
 

@@ -61,7 +61,8 @@ impl Totals {
     // With the shares of one publisher record more.
     pub fn with_publisher(mut self, shares: Rights) -> Totals
         requires { ⌜ Below (2 ^ 60) self × AtMost 99999 shares ⌝ }
-        ensures { λ sum. ⌜ ((ds : List Bytes) (r : Bytes) → Sums self ds → isPublisher r ≡ true → shares ≡ rights (λ right. publisherShare right r) → Sums sum (ds ++ r ∷ [])) ⌝ }
+        ensures { λ sum. ⌜ ((ds : List Bytes) (r : Bytes) → Sums self ds → isPublisher r ≡ true
+            → shares ≡ rights (λ right. publisherShare right r) → Sums sum (ds ++ r ∷ [])) ⌝ }
         ensures { λ sum. ⌜ ((k : ℕ) → Below k self → Below (k + 99999) sum) ⌝ }
     {
         let before = self.publishers;
@@ -72,7 +73,8 @@ impl Totals {
     // With the shares of one writer record more.
     pub fn with_writer(mut self, shares: Rights) -> Totals
         requires { ⌜ Below (2 ^ 60) self × AtMost 99999 shares ⌝ }
-        ensures { λ sum. ⌜ ((ds : List Bytes) (r : Bytes) → Sums self ds → isWriter r ≡ true → shares ≡ rights (λ right. writerShare right r) → Sums sum (ds ++ r ∷ [])) ⌝ }
+        ensures { λ sum. ⌜ ((ds : List Bytes) (r : Bytes) → Sums self ds → isWriter r ≡ true
+            → shares ≡ rights (λ right. writerShare right r) → Sums sum (ds ++ r ∷ [])) ⌝ }
         ensures { λ sum. ⌜ ((k : ℕ) → Below k self → Below (k + 99999) sum) ⌝ }
     {
         let before = self.writers;

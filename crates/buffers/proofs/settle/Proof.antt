@@ -10,8 +10,10 @@ use Rattle.buffers.proofs.settle.Tie as tie
 
 returns : tie.Need-returns
 returns c s e =
-    let g = c .before .before .before .before .before .before .args in
-    entry (g .index) (g .verdict) (g .set) s (g .verdicts .now) (g .findings .now) _ (8 * (g .index + 1)) refl (omega arith) (omega arith) (c .before .before .put .ensures) e
+    let start = c .before .before .before .before .before .before in
+    let g = start .args in
+    entry (g .index) (g .verdict) (g .set) s (g .verdicts .now) (g .findings .now) _ (8 * (g .index + 1)) refl (omega arith)
+    (omega arith) (c .before .before .put .ensures) e
 
 pub settle-spec : {M : Type 1} → statement M
 settle-spec =

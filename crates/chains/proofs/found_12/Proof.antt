@@ -22,7 +22,12 @@ loop-again : tie.Need-loop-again Inv-loop μ-loop
 loop-again c = (omega arith, rw (add-one, c .before .before .before .loop .inv .1))
 
 returns : tie.Need-returns Inv-loop μ-loop
-returns c ds b t = let e : c .before .loop .k ≡ 100 = omega arith in (rw e at (c .before .loop .inv .1)) ∙ found-is (c .before .before .args .begun .now) (c .before .before .args .sums .now) ds b t
+returns c ds b t =
+    let at1 = c .before in
+    let start = at1 .before in
+    let e : at1 .loop .k ≡ 100 = omega arith in
+    (rw e at (at1 .loop .inv .1))
+    ∙ found-is (start .args .begun .now) (start .args .sums .now) ds b t
 
 pub found-12-spec : {M : Type 1} → statement M
 found-12-spec =

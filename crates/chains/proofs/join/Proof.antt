@@ -7,15 +7,23 @@ use Rattle.chains.proofs.join.Statement.{statement}
 use Rattle.chains.proofs.join.Tie as tie
 
 add-es : tie.Need-add-es
-add-es c = omega (arith, c .before .before .before .before .before .before .before .before .pre .2 .es≤ (c .before .before .before .before .before .before .before .before .args .k) (c .before .before .before .before .before .before .before .before .pre .0))
+add-es c =
+    let start = c .before .before .before .before .before .before .before .before in
+    omega (arith, start .pre .2 .es≤ (start .args .k) (start .pre .0))
 
 add-sums : tie.Need-add-sums
-add-sums c = omega (arith, c .before .before .before .before .before .before .before .before .before .pre .2 .sums≤ (c .before .before .before .before .before .before .before .before .before .args .k) (c .before .before .before .before .before .before .before .before .before .pre .0))
+add-sums c =
+    let start = c .before .before .before .before .before .before .before .before .before in
+    omega (arith, start .pre .2 .sums≤ (start .args .k) (start .pre .0))
 
 returns : tie.Need-returns
 returns c ds r t inside p q s n =
-    let a = (c .before .before .before .before .before .before .before .before .before .before .before .before) in
-    rw (c .before .before .before .counted .ensures .0, c .before .before .before .before .one .ensures .0, c .before .before .before .before .before .pick2 .ensures, c .before .before .before .before .before .before .pick .ensures)
+    let at4 = c .before .before .before in
+    let at3 = at4 .before in
+    let at2 = at3 .before in
+    let at1 = at2 .before in
+    let a = at1 .before .before .before .before .before .before in
+    rw (at4 .counted .ensures .0, at3 .one .ensures .0, at2 .pick2 .ensures, at1 .pick .ensures)
     (with-more (chainsOf (a .args .begun .now) (a .args .es .now) (a .args .own .now) (a .args .paid .now) (a .args .sums .now) (a .args .met))
     (a .args .k) ds r (a .args .spu) (a .args .e) (a .args .aq) (a .args .shares)
     (a .pre .0) t inside p q s n)

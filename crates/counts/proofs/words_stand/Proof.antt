@@ -11,8 +11,10 @@ use Rattle.counts.proofs.words_stand.Tie as tie
 returns : tie.Need-returns
 unfolding words
 returns c =
-    let g = c .before .before .before .args in
-    compared (g .record .now) (g .start) 8 (bytesOf 8 (g .m)) (length-bytes 8 (g .m)) (bytesOf 8 (g .r)) 8 (search needs) (search needs) _ _ (c .before .word-stands .ensures) (c .word-stands2 .ensures)
+    let start = c .before .before .before in
+    let g = start .args in
+    compared (g .record .now) (g .start) 8 (bytesOf 8 (g .m)) (length-bytes 8 (g .m)) (bytesOf 8 (g .r)) 8 (search needs) (search needs)
+    _ _ (c .before .word-stands .ensures) (c .word-stands2 .ensures)
 
 pub words-stand-spec : {M : Type 1} → statement M
 words-stand-spec =

@@ -5,7 +5,9 @@ use Rattle.cwr_c.proofs.cwr_check.Statement.{statement}
 use Rattle.cwr_c.proofs.cwr_check.Tie as tie
 
 returns : tie.Need-returns
-returns c = checked (c .before .before .before .before .before .check-short .result) (c .packed .ensures) _ _ _ _ _ _ _ (c .before .before .before .before .before .check-short .ensures)
+returns c =
+    let at1 = c .before .before .before .before .before in
+    checked (at1 .check-short .result) (c .packed .ensures) _ _ _ _ _ _ _ (at1 .check-short .ensures)
 
 pub cwr-check-spec : {M : Type 1} → statement M
 cwr-check-spec = tie.close (tie.spec (λ c κs. search needs) (λ c κs. search needs) (λ c. search needs) (λ c. search needs) returns)

@@ -8,7 +8,10 @@ returns : tie.Need-returns
 returns c = long-listed (c .before .before .before .before .before .args .input .now) (c .before .before .before .if1 .taken) (c .put-word .ensures .0)
 
 returns-2 : tie.Need-returns-2
-returns-2 c = short-listed (c .before .before .before .before .before .before .args .input .now) (c .before .before .before .before .if1 .left) (c .put-checked .ensures)
+returns-2 c =
+    let at1 = c .before .before .before .before in
+    let start = at1 .before .before in
+    short-listed (start .args .input .now) (at1 .if1 .left) (c .put-checked .ensures)
 
 pub list-spec : {M : Type 1} → statement M
 list-spec =

@@ -8,10 +8,21 @@ use Rattle.lister.proofs.put_checked.Statement.{statement}
 use Rattle.lister.proofs.put_checked.Tie as tie
 
 put-outcome-requires : tie.Need-put-outcome-requires
-put-outcome-requires c κs = (can-list listingTables largestTolerance (c .before .before .before .before .before .before .before .before .before .before .before .before .before .args .file .now) (c .before .before .before .before .before .before .before .before .before .before .before .before .before .args .verdicts .now) (c .before .before .before .before .before .before .before .before .before .before .before .before .before .args .findings .now) (answerOf (c .before .before .before .before .before .check-short .result)) _ _ (c .before .before .before .before .before .check-short .ensures), search needs)
+put-outcome-requires c κs =
+    let at1 = c .before .before .before .before .before in
+    let start = at1 .before .before .before .before .before .before .before .before in (
+      can-list listingTables largestTolerance (start .args .file .now) (start .args .verdicts .now) (start .args .findings .now)
+          (answerOf (at1 .check-short .result)) _ _ (at1 .check-short .ensures),
+      search needs,
+    )
 
 returns : tie.Need-returns
-returns c = rw (is-listed listingTables largestTolerance (c .before .before .before .before .before .before .before .before .before .before .before .before .before .before .before .before .args .file .now) (c .before .before .before .before .before .before .before .before .before .before .before .before .before .before .before .before .args .verdicts .now) (c .before .before .before .before .before .before .before .before .before .before .before .before .before .before .before .before .args .findings .now) (answerOf (c .before .before .before .before .before .before .before .before .check-short .result)) _ _ (c .before .before .before .before .before .before .before .before .check-short .ensures) (search needs) (search needs)) at (c .before .before .put-outcome .ensures)
+returns c =
+    let at1 = c .before .before .before .before .before .before .before .before in
+    let start = at1 .before .before .before .before .before .before .before .before in
+    rw (is-listed listingTables largestTolerance (start .args .file .now) (start .args .verdicts .now) (start .args .findings .now)
+    (answerOf (at1 .check-short .result)) _ _ (at1 .check-short .ensures) (search needs) (search needs)) at
+    (c .before .before .put-outcome .ensures)
 
 pub put-checked-spec : {M : Type 1} → statement M
 put-checked-spec =

@@ -7,9 +7,12 @@ use Rattle.lister.proofs.put_digits.Tie as tie
 
 returns : tie.Need-returns
 returns c =
-    let d = c .before .before .before .before .before .before .before .before .args .digits .now in
-    let k = c .before .before .before .before .before .zeros .result in
-    (digits-put d k (c .before .before .before .before .before .before .before .before .args .end) (c .before .before .before .before .before .zeros .ensures .0) (c .before .before .put-word .ensures .0), omega (arith, digits-most d k, c .before .before .put-word .ensures .1))
+    let at2 = c .before .before in
+    let at1 = at2 .before .before .before in
+    let start = at1 .before .before .before in
+    let d = start .args .digits .now in
+    let k = at1 .zeros .result in
+    (digits-put d k (start .args .end) (at1 .zeros .ensures .0) (at2 .put-word .ensures .0), omega (arith, digits-most d k, at2 .put-word .ensures .1))
 
 pub put-digits-spec : {M : Type 1} → statement M
 put-digits-spec =

@@ -5,7 +5,10 @@ use Rattle.lister.proofs.put_figure.Statement.{statement}
 use Rattle.lister.proofs.put_figure.Tie as tie
 
 returns : tie.Need-returns
-returns c = (figure-put (c .before .before .before .before .before .before .before .before .before .args .n) (c .before .before .before .before .before .before .before .before .before .args .end) _ (c .before .before .before .before .before .before .decimal .ensures) (c .before .before .put-digits .ensures .0), search needs)
+returns c =
+    let at1 = c .before .before .before .before .before .before in
+    let start = at1 .before .before .before in
+    (figure-put (start .args .n) (start .args .end) _ (at1 .decimal .ensures) (c .before .before .put-digits .ensures .0), search needs)
 
 pub put-figure-spec : {M : Type 1} → statement M
 put-figure-spec =

@@ -8,9 +8,16 @@ use Rattle.lister.proofs.put_line.Tie as tie
 
 returns : tie.Need-returns
 returns c =
-    let g = c .before .before .before .before .before .before .before .before .before .before .before .before .before .args in
-    let word = c .before .before .before .before .before .before .before .load-eight .ensures .0 in
-    (line-put (g .file .now) (g .at) (g .number) (g .verdicts .now) (g .findings .now) (8 * (g .number + 1)) (c .before .before .before .before .before .before .before .load-eight .result) (c .before .before .before .before .wide .result) refl word (c .before .before .before .before .wide .ensures) (c .before .before .put-record .ensures .0), c .before .before .put-record .ensures .1)
+    let at3 = c .before .before in
+    let at2 = at3 .before .before in
+    let at1 = at2 .before .before .before in
+    let start = at1 .before .before .before .before .before .before in
+    let g = start .args in
+    let word = at1 .load-eight .ensures .0 in (
+      line-put (g .file .now) (g .at) (g .number) (g .verdicts .now) (g .findings .now) (8 * (g .number + 1)) (at1 .load-eight .result)
+          (at2 .wide .result) refl word (at2 .wide .ensures) (at3 .put-record .ensures .0),
+      at3 .put-record .ensures .1,
+    )
 
 pub put-line-spec : {M : Type 1} → statement M
 put-line-spec =

@@ -6,11 +6,23 @@ use Rattle.lister.proofs.put_lowest.Statement.{statement}
 use Rattle.lister.proofs.put_lowest.Tie as tie
 
 returns : tie.Need-returns
-returns c = (rw (dash (places 64 (c .before .before .before .before .before .before .before .before .before .args .set)) (c .before .before .before .before .before .before .before .count .result) (c .before .before .before .before .before .before .before .count .ensures) (c .before .before .before .before .before .if1 .taken)) (c .before .before .put-word .ensures .0), search needs)
+returns c =
+    let at2 = c .before .before .before .before .before in
+    let at1 = at2 .before .before in
+    let start = at1 .before .before in (
+      rw (dash (places 64 (start .args .set)) (at1 .count .result) (at1 .count .ensures) (at2 .if1 .taken))
+          (c .before .before .put-word .ensures .0),
+      search needs,
+    )
 
 returns-2 : tie.Need-returns-2
 returns-2 c =
-    let is = lowest-is (places 64 (c .before .before .before .before .before .before .before .before .args .set)) (c .before .before .before .before .before .before .count .result) (c .before .before .before .before .before .lowest .result) (c .before .before .before .before .before .before .count .ensures) (c .before .before .before .before .if1 .left) (c .before .before .before .before .before .lowest .ensures) in
+    let at3 = c .before .before .before .before in
+    let at2 = at3 .before in
+    let at1 = at2 .before in
+    let start = at1 .before .before in
+    let is = lowest-is (places 64 (start .args .set)) (at1 .count .result) (at2 .lowest .result) (at1 .count .ensures) (at3 .if1 .left)
+    (at2 .lowest .ensures) in
     (rw is (c .before .before .put-figure .ensures .0), search needs)
 
 pub put-lowest-spec : {M : Type 1} → statement M

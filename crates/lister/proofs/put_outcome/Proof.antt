@@ -11,13 +11,28 @@ use Rattle.lister.proofs.put_outcome.Statement.{statement}
 use Rattle.lister.proofs.put_outcome.Tie as tie
 
 put-records-requires : tie.Need-put-records-requires
-put-records-requires c κs = (c .before .before .before .before .before .before .before .before .before .before .before .pre .0 (sym (c .before .before .passes .ensures) ∙ c .before .if1 .taken), omega (arith, c .before .before .before .before .before .before .before .before .before .before .before .pre .1, c .before .before .before .before .before .put-answer .ensures .1))
+put-records-requires c κs =
+    let at1 = c .before .before .before .before .before in
+    let start = at1 .before .before .before .before .before .before in
+    (start .pre .0 (sym (c .before .before .passes .ensures) ∙ c .before .if1 .taken), omega (arith, start .pre .1, at1 .put-answer .ensures .1))
 
 returns : tie.Need-returns
-returns c = passed-put (answerOf (c .before .before .before .before .before .before .before .before .before .before .before .before .before .before .args .answer)) (linesFrom (c .before .before .before .before .before .before .before .before .before .before .before .before .before .before .args .verdicts .now) (c .before .before .before .before .before .before .before .before .before .before .before .before .before .before .args .findings .now) 0 (recordsIn (lines (c .before .before .before .before .before .before .before .before .before .before .before .before .before .before .args .file .now)))) (sym (c .before .before .before .before .before .passes .ensures) ∙ c .before .before .before .before .if1 .taken) (c .before .before .before .before .before .before .before .before .put-answer .ensures .0) (c .before .before .put-records .ensures)
+returns c =
+    let at3 = c .before .before .before .before in
+    let at2 = at3 .before in
+    let at1 = at2 .before .before .before in
+    let start = at1 .before .before .before .before .before .before in
+    passed-put (answerOf (start .args .answer))
+    (linesFrom (start .args .verdicts .now) (start .args .findings .now) 0 (recordsIn (lines (start .args .file .now))))
+    (sym (at2 .passes .ensures) ∙ at3 .if1 .taken) (at1 .put-answer .ensures .0) (c .before .before .put-records .ensures)
 
 returns-2 : tie.Need-returns-2
-returns-2 c = refused-put (answerOf (c .before .before .before .before .before .before .before .before .before .before .args .answer)) (linesFrom (c .before .before .before .before .before .before .before .before .before .before .args .verdicts .now) (c .before .before .before .before .before .before .before .before .before .before .args .findings .now) 0 (recordsIn (lines (c .before .before .before .before .before .before .before .before .before .before .args .file .now)))) (sym (c .before .passes .ensures) ∙ c .if1 .left) (c .before .before .before .before .put-answer .ensures .0)
+returns-2 c =
+    let at1 = c .before .before .before .before in
+    let start = at1 .before .before .before .before .before .before in
+    refused-put (answerOf (start .args .answer))
+    (linesFrom (start .args .verdicts .now) (start .args .findings .now) 0 (recordsIn (lines (start .args .file .now))))
+    (sym (c .before .passes .ensures) ∙ c .if1 .left) (at1 .put-answer .ensures .0)
 
 pub put-outcome-spec : {M : Type 1} → statement M
 put-outcome-spec =

@@ -7,11 +7,28 @@ use Rattle.lister.proofs.put_record.Statement.{statement}
 use Rattle.lister.proofs.put_record.Tie as tie
 
 returns : tie.Need-returns
-returns c = (
-  record-put (c .before .before .before .before .before .before .before .before .before .before .before .before .before .before .before .before .before .before .before .before .before .before .before .args .number) (c .before .before .before .before .before .before .before .before .before .before .before .before .before .before .before .before .before .before .before .before .before .before .before .args .kind .now) (c .before .before .before .before .before .before .before .before .before .before .before .before .before .before .before .before .before .before .before .before .before .before .before .args .verdict) (c .before .before .before .before .before .before .before .before .count .result) (places 64 (c .before .before .before .before .before .before .before .before .before .before .before .before .before .before .before .before .before .before .before .before .before .before .before .args .set)) (c .before .before .before .before .before .before .before .before .before .before .before .before .before .before .before .before .before .before .before .before .before .before .before .pre .0) (c .before .before .before .before .before .before .before .before .count .ensures)
-      (c .before .before .before .before .before .before .before .before .before .before .before .before .before .before .before .before .before .before .before .put-figure .ensures .0) (c .before .before .before .before .before .before .before .before .before .before .before .before .before .before .before .put-word .ensures .0) (c .before .before .before .before .before .before .before .before .before .before .before .put-figure2 .ensures .0) (c .before .before .before .before .before .before .put-figure3 .ensures .0) (c .before .before .put-lowest .ensures .0),
-  omega (arith, c .before .before .before .before .before .before .before .before .before .before .before .before .before .before .before .before .before .before .before .before .before .before .before .pre .0, c .before .before .before .before .before .before .before .before .before .before .before .before .before .before .before .before .before .before .before .put-figure .ensures .1, c .before .before .before .before .before .before .before .before .before .before .before .before .before .before .before .put-word .ensures .1, c .before .before .before .before .before .before .before .before .before .before .before .put-figure2 .ensures .1, c .before .before .before .before .before .before .put-figure3 .ensures .1, c .before .before .put-lowest .ensures .1),
-)
+returns c =
+    let at6 = c .before .before in
+    let at5 = at6 .before .before .before .before in
+    let at4 = at5 .before .before in
+    let at3 = at4 .before .before .before in
+    let at2 = at3 .before .before .before .before in
+    let at1 = at2 .before .before .before .before in
+    let start = at1 .before .before .before .before in (
+      record-put (start .args .number) (start .args .kind .now) (start .args .verdict) (at4 .count .result)
+          (places 64 (start .args .set)) (start .pre .0) (at4 .count .ensures)
+          (at1 .put-figure .ensures .0) (at2 .put-word .ensures .0) (at3 .put-figure2 .ensures .0) (at5 .put-figure3 .ensures .0)
+          (at6 .put-lowest .ensures .0),
+      omega (
+        arith,
+        start .pre .0,
+        at1 .put-figure .ensures .1,
+        at2 .put-word .ensures .1,
+        at3 .put-figure2 .ensures .1,
+        at5 .put-figure3 .ensures .1,
+        at6 .put-lowest .ensures .1,
+      ),
+    )
 
 pub put-record-spec : {M : Type 1} → statement M
 put-record-spec =

@@ -23,29 +23,40 @@ put-line-requires : tie.Need-put-line-requires Inv-loop μ-loop
 put-line-requires c κs =
     let inv = c .before .before .loop .inv in
     let here = c .before .loop-test .taken in
-    let five = five-bytes (c .before .before .before .before .before .before .before .args .file .now) (c .before .before .before .before .before .before .before .args .verdicts .now) (c .before .before .before .before .before .before .before .args .findings .now) (c .before .before .before .before .before .before .before .args .start) (c .before .before .before .before .before .before .before .args .out .now) (c .before .before .loop .out) (c .before .before .loop .at) (c .before .before .loop .number) (c .before .before .loop .place) (c .before .before .loop .inv) here in
-    (omega (arith, five), verdict-there (c .before .before .before .before .before .before .before .args .file .now) (c .before .before .before .before .before .before .before .args .verdicts .now) (c .before .before .before .before .before .before .before .args .findings .now) (c .before .before .before .before .before .before .before .args .start) (c .before .before .before .before .before .before .before .args .out .now) (c .before .before .loop .out) (c .before .before .loop .at) (c .before .before .loop .number) (c .before .before .loop .place) (c .before .before .loop .inv) here, set-there (c .before .before .before .before .before .before .before .args .file .now) (c .before .before .before .before .before .before .before .args .verdicts .now) (c .before .before .before .before .before .before .before .args .findings .now) (c .before .before .before .before .before .before .before .args .start) (c .before .before .before .before .before .before .before .args .out .now) (c .before .before .loop .out) (c .before .before .loop .at) (c .before .before .loop .number) (c .before .before .loop .place) (c .before .before .loop .inv) here, omega (arith, five, inv .few, length-put (inv .put), c .before .before .before .before .before .before .before .pre .1))
+    let five = five-bytes inv here in
+    let start = c .before .before .before .before .before .before .before in
+    (omega (arith, five), verdict-there inv here, set-there inv here, omega (arith, five, inv .few, length-put (inv .put), start .pre .1))
 
 text-end-requires : tie.Need-text-end-requires Inv-loop μ-loop
 text-end-requires c κs = c .before .before .before .before .before .loop .inv .within
 
 add-at : tie.Need-add-at Inv-loop μ-loop
-add-at c = omega (arith, c .text-end .ensures .0, next-within (c .before .before .before .before .before .before .before .before .before .before .before .args .file .now) (c .before .before .before .before .before .before .before .before .before .before .before .args .verdicts .now) (c .before .before .before .before .before .before .before .before .before .before .before .args .findings .now) (c .before .before .before .before .before .before .before .before .before .before .before .args .start) (c .before .before .before .before .before .before .before .before .before .before .before .args .out .now) (c .before .before .before .before .before .before .loop .out) (c .before .before .before .before .before .before .loop .at) (c .before .before .before .before .before .before .loop .number) (c .before .before .before .before .before .before .loop .place) (c .before .before .before .before .before .before .loop .inv) (c .before .before .before .before .before .loop-test .taken))
+add-at c =
+    let tested = c .before .before .before .before .before in
+    omega (arith, c .text-end .ensures .0, next-within (tested .before .loop .inv) (tested .loop-test .taken))
 
 add-number : tie.Need-add-number Inv-loop μ-loop
-add-number c = omega (arith, verdict-there (c .before .before .before .before .before .before .before .before .before .before .before .args .file .now) (c .before .before .before .before .before .before .before .before .before .before .before .args .verdicts .now) (c .before .before .before .before .before .before .before .before .before .before .before .args .findings .now) (c .before .before .before .before .before .before .before .before .before .before .before .args .start) (c .before .before .before .before .before .before .before .before .before .before .before .args .out .now) (c .before .before .before .before .before .before .loop .out) (c .before .before .before .before .before .before .loop .at) (c .before .before .before .before .before .before .loop .number) (c .before .before .before .before .before .before .loop .place) (c .before .before .before .before .before .before .loop .inv) (c .before .before .before .before .before .loop-test .taken))
+add-number c =
+    let tested = c .before .before .before .before .before in
+    omega (arith, verdict-there (tested .before .loop .inv) (tested .loop-test .taken))
 
 loop-less : tie.Need-loop-less Inv-loop μ-loop
-loop-less c = omega (arith, c .text-end .ensures .0, next-within (c .before .before .before .before .before .before .before .before .before .before .before .args .file .now) (c .before .before .before .before .before .before .before .before .before .before .before .args .verdicts .now) (c .before .before .before .before .before .before .before .before .before .before .before .args .findings .now) (c .before .before .before .before .before .before .before .before .before .before .before .args .start) (c .before .before .before .before .before .before .before .before .before .before .before .args .out .now) (c .before .before .before .before .before .before .loop .out) (c .before .before .before .before .before .before .loop .at) (c .before .before .before .before .before .before .loop .number) (c .before .before .before .before .before .before .loop .place) (c .before .before .before .before .before .before .loop .inv) (c .before .before .before .before .before .loop-test .taken))
+loop-less c =
+    let tested = c .before .before .before .before .before in
+    omega (arith, c .text-end .ensures .0, next-within (tested .before .loop .inv) (tested .loop-test .taken))
 
 loop-again : tie.Need-loop-again Inv-loop μ-loop
-loop-again c = going-on (c .before .before .before .before .before .before .before .before .before .before .before .args .file .now) (c .before .before .before .before .before .before .before .before .before .before .before .args .verdicts .now) (c .before .before .before .before .before .before .before .before .before .before .before .args .findings .now) (c .before .before .before .before .before .before .before .before .before .before .before .args .start) (c .before .before .before .before .before .before .before .before .before .before .before .args .out .now) (c .before .before .before .before .before .before .loop .out) (c .before .before .before .before .before .before .loop .at) (c .before .before .before .before .before .before .loop .number) (c .before .before .before .before .before .before .loop .place) (c .before .before .before .before .before .before .loop .inv) (c .before .before .before .before .before .loop-test .taken) (c .text-end .result) (c .text-end .ensures .0) _ _ (c .before .before .before .put-line .ensures .0) (c .before .before .before .put-line .ensures .1)
+loop-again c =
+    let put = c .before .before .before in
+    let tested = c .before .before .before .before .before in
+    going-on (tested .before .loop .inv) (tested .loop-test .taken) (c .text-end .result) (c .text-end .ensures .0) _ _ (put .put-line .ensures .0)
+    (put .put-line .ensures .1)
 
 same-length : tie.Need-same-length Inv-loop μ-loop
 same-length c = length-put (c .before .loop .inv .put)
 
 returns : tie.Need-returns Inv-loop μ-loop
-returns c = going-end (c .before .before .before .before .before .before .args .file .now) (c .before .before .before .before .before .before .args .verdicts .now) (c .before .before .before .before .before .before .args .findings .now) (c .before .before .before .before .before .before .args .start) (c .before .before .before .before .before .before .args .out .now) (c .before .loop .out) (c .before .loop .at) (c .before .loop .number) (c .before .loop .place) (c .before .loop .inv) (c .loop-test .left)
+returns c = going-end (c .before .loop .inv) (c .loop-test .left)
 
 pub put-records-spec : {M : Type 1} → statement M
 put-records-spec =

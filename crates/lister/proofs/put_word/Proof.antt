@@ -11,10 +11,14 @@ use Rattle.lister.proofs.put_word.Tie as tie
 
 returns : tie.Need-returns
 returns c =
-    let g = c .before .before .before .before .before .before .args in
+    let start = c .before .before .before .before .before .before in
+    let g = start .args in
     let e = g .at + length (g .word .now) in
-    let part = mid-len (g .at) e (g .out .now) (omega arith) in
-    (word-put (g .word .now) (take (e - g .at) (drop (g .at) (g .out .now))) _ (g .out .now) (g .at) e (g .end) refl (omega arith) (omega (arith, part)) (c .before .before .copy .ensures .1), refl)
+    let part = mid-len (g .at) e (g .out .now) (omega arith) in (
+      word-put (g .word .now) (take (e - g .at) (drop (g .at) (g .out .now))) _ (g .out .now) (g .at) e (g .end) refl (omega arith)
+          (omega (arith, part)) (c .before .before .copy .ensures .1),
+      refl,
+    )
 
 pub put-word-spec : {M : Type 1} → statement M
 put-word-spec =

@@ -22,12 +22,17 @@ scan-requires c κs = (c .walk .ensures .bounded, c .before .before .before .bef
 
 returns-2 : tie.Need-returns-2
 returns-2 c =
-    let g = c .before .before .before .before .before .before .before .args in
-    let n : c .before .before .before .before .text-end .result - 0 ≡ textLength (g .file .now) = omega (arith, c .before .before .before .before .text-end .ensures .0) in
+    let at3 = c .before .before in
+    let at2 = at3 .before .before in
+    let at1 = at2 .before in
+    let start = at1 .before .before in
+    let g = start .args in
+    let n : at2 .text-end .result - 0 ≡ textLength (g .file .now) = omega (arith, at2 .text-end .ensures .0) in
     c .scan .ensures
-    ∙ c .before .walk .ensures .rest (c .before .before .version .result)
-    ∙ ap (λ (v : Bool). restFrom cwr22 (g .asked) v unknown noneCounted (g .file .now)) (c .before .before .version .ensures ∙ ap (λ (k : ℕ). version22 (take k (g .file .now))) n)
-    ∙ whole-fits (g .file .now) (g .asked) (c .before .before .before .before .before .if1 .left)
+    ∙ c .before .walk .ensures .rest (at3 .version .result)
+    ∙ ap (λ (v : Bool). restFrom cwr22 (g .asked) v unknown noneCounted (g .file .now))
+    (at3 .version .ensures ∙ ap (λ (k : ℕ). version22 (take k (g .file .now))) n)
+    ∙ whole-fits (g .file .now) (g .asked) (at1 .if1 .left)
 
 pub answer-spec : {M : Type 1} → statement M
 answer-spec =

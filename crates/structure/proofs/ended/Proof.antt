@@ -12,28 +12,50 @@ returns c =
 
 returns-2 : tie.Need-returns-2
 returns-2 c =
-    let g = c .before .before .before .before .before .before .args in
-    λ asked. end-place asked (g .version) (g .m) (g .s .place) (tally (g .s .counts)) (c .before .before .before .if1 .left) (c .before .before .before .before .before .before .pre) _ (c .before .if2 .taken) (c .index2 .ensures)
+    let at1 = c .before .before .before in
+    let start = at1 .before .before .before in
+    let g = start .args in
+    λ asked. end-place asked (g .version) (g .m) (g .s .place) (tally (g .s .counts)) (at1 .if1 .left) (start .pre) _
+    (c .before .if2 .taken) (c .index2 .ensures)
 
 returns-3 : tie.Need-returns-3
 returns-3 c =
-    let g = c .before .before .before .before .before .before .before .before .before .args in
-    λ asked. end-number asked (g .version) (g .m) (g .s .place) (tally (g .s .counts)) (c .before .before .before .before .before .before .if1 .left) (c .before .before .before .before .before .before .before .before .before .pre) (c .before .before .before .before .if2 .left) _ (c .before .before .if3 .taken) (c .index3 .ensures)
+    let at2 = c .before .before .before .before in
+    let at1 = at2 .before .before in
+    let start = at1 .before .before .before in
+    let g = start .args in
+    λ asked. end-number asked (g .version) (g .m) (g .s .place) (tally (g .s .counts)) (at1 .if1 .left) (start .pre) (at2 .if2 .left) _
+    (c .before .before .if3 .taken) (c .index3 .ensures)
 
 returns-4 : tie.Need-returns-4
 returns-4 c =
-    let g = c .before .before .before .before .before .before .before .before .before .before .before .args in
-    λ asked. end-total asked (g .version) (g .m) (g .s .place) (tally (g .s .counts)) (c .before .before .before .before .before .before .before .before .if1 .left) (c .before .before .before .before .before .before .before .before .before .before .before .pre) (c .before .before .before .before .before .before .if2 .left) (c .before .before .before .before .if3 .left) _ (c .before .before .if4 .taken) (c .index4 .ensures)
+    let at3 = c .before .before .before .before in
+    let at2 = at3 .before .before in
+    let at1 = at2 .before .before in
+    let start = at1 .before .before .before in
+    let g = start .args in
+    λ asked. end-total asked (g .version) (g .m) (g .s .place) (tally (g .s .counts)) (at1 .if1 .left) (start .pre) (at2 .if2 .left)
+    (at3 .if3 .left) _ (c .before .before .if4 .taken) (c .index4 .ensures)
 
 returns-5 : tie.Need-returns-5
 returns-5 c =
-    let g = c .before .before .before .before .before .before .before .before .before .before .args in
-    λ asked. end-passed asked (g .version) (g .m) (g .s .place) (tally (g .s .counts)) (c .before .before .before .before .before .before .before .if1 .left) (c .before .before .before .before .before .before .before .before .before .before .pre) (c .before .before .before .before .before .if2 .left) (c .before .before .before .if3 .left) (c .before .if4 .left) (c .if5 .taken)
+    let at3 = c .before .before .before in
+    let at2 = at3 .before .before in
+    let at1 = at2 .before .before in
+    let start = at1 .before .before .before in
+    let g = start .args in
+    λ asked. end-passed asked (g .version) (g .m) (g .s .place) (tally (g .s .counts)) (at1 .if1 .left) (start .pre) (at2 .if2 .left)
+    (at3 .if3 .left) (c .before .if4 .left) (c .if5 .taken)
 
 returns-6 : tie.Need-returns-6
 returns-6 c =
-    let g = c .before .before .before .before .before .before .before .before .before .before .args in
-    λ asked. end-version asked (g .version) (g .m) (g .s .place) (tally (g .s .counts)) (c .before .before .before .before .before .before .before .if1 .left) (c .before .before .before .before .before .before .before .before .before .before .pre) (c .before .before .before .before .before .if2 .left) (c .before .before .before .if3 .left) (c .before .if4 .left) (c .if5 .left)
+    let at3 = c .before .before .before in
+    let at2 = at3 .before .before in
+    let at1 = at2 .before .before in
+    let start = at1 .before .before .before in
+    let g = start .args in
+    λ asked. end-version asked (g .version) (g .m) (g .s .place) (tally (g .s .counts)) (at1 .if1 .left) (start .pre) (at2 .if2 .left)
+    (at3 .if3 .left) (c .before .if4 .left) (c .if5 .left)
 
 pub ended-spec : {M : Type 1} → statement M
 ended-spec =

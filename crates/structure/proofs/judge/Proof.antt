@@ -32,18 +32,37 @@ text-end-requires c κs = c .before .before .loop .inv .bounded .inside
 
 returns : tie.Need-returns Inv-loop μ-loop
 returns c =
-    let g = c .before .before .before .before .before .before .before .before .before .before .before .args in
-    let l = c .before .before .before .before .before .before .before .before .before .loop in
+    let at5 = c .before .before .before in
+    let at4 = at5 .before in
+    let at3 = at4 .before .before in
+    let at2 = at3 .before in
+    let at1 = at2 .before .before in
+    let start = at1 .before .before in
+    let g = start .args in
+    let l = at1 .loop in
     ap (refused 6) (c .index .ensures)
-    ∙ judging-type (g .file .now) (g .asked) (g .version) (l .s) (l .m) _ (l .inv) (c .before .before .before .before .before .before .before .if1 .taken) (c .before .before .before .before .before .before .text-end .result) (c .before .before .before .before .before .before .text-end .ensures .0) _ refl (c .before .before .before .before .row-of .result) (c .before .before .before .before .row-of .ensures) (c .before .before .before .shaped .result) (c .before .before .before .shaped .ensures) (not-true _ (c .before .before .if2 .taken))
+    ∙ judging-type (g .file .now) (g .asked) (g .version) (l .s) (l .m) _ (l .inv) (at2 .if1 .taken) (at3 .text-end .result)
+    (at3 .text-end .ensures .0) _ refl (at4 .row-of .result) (at4 .row-of .ensures) (at5 .shaped .result) (at5 .shaped .ensures)
+    (not-true _ (c .before .before .if2 .taken))
 
 more-requires : tie.Need-more-requires Inv-loop μ-loop
 more-requires c κs =
-    let g = c .before .before .before .before .before .before .before .before .before .args in
-    let l = c .before .before .before .before .before .before .before .loop in
+    let at5 = c .before in
+    let at4 = at5 .before in
+    let at3 = at4 .before .before in
+    let at2 = at3 .before in
+    let at1 = at2 .before .before in
+    let start = at1 .before .before in
+    let g = start .args in
+    let l = at1 .loop in
     let b = l .inv .bounded in (
       (b .place, b .kept, omega (arith, b .few, b .inside)),
-      (c .before .before .row-of .ensures, is-typed (g .file .now) (g .asked) (g .version) (l .s) (l .m) _ (l .inv) (c .before .before .before .before .before .if1 .taken) (c .before .before .before .before .text-end .result) (c .before .before .before .before .text-end .ensures .0) _ refl (c .before .before .row-of .result) (c .before .before .row-of .ensures) (c .before .shaped .result) (c .before .shaped .ensures) ∙ not-false _ (c .if2 .left)),
+      (
+        at4 .row-of .ensures,
+        is-typed (g .file .now) (g .asked) (g .version) (l .s) (l .m) _ (l .inv) (at2 .if1 .taken)
+            (at3 .text-end .result) (at3 .text-end .ensures .0) _ refl (at4 .row-of .result) (at4 .row-of .ensures) (at5 .shaped .result)
+            (at5 .shaped .ensures) ∙ not-false _ (c .if2 .left),
+      ),
     )
 
 after-record-requires : tie.Need-after-record-requires Inv-loop μ-loop
@@ -56,9 +75,17 @@ loop-less c = omega (arith, c .after-record .ensures .at)
 
 loop-again : tie.Need-loop-again Inv-loop μ-loop
 loop-again c =
-    let g = c .before .before .before .before .before .before .before .before .before .before .before .args in
-    let l = c .before .before .before .before .before .before .before .before .before .loop in
-    judging-on (g .file .now) (g .asked) (g .version) (l .s) (l .m) _ (l .inv) (c .before .before .before .before .before .before .before .if1 .taken) (c .before .before .before .before .before .before .text-end .result) (c .before .before .before .before .before .before .text-end .ensures .0) _ refl (c .before .before .before .before .row-of .result) (c .before .before .before .before .row-of .ensures) (c .before .before .before .shaped .result) (c .before .before .before .shaped .ensures) (not-false _ (c .before .before .if2 .left)) _ (c .after-record .ensures) _ (c .before .more .ensures)
+    let at5 = c .before .before .before in
+    let at4 = at5 .before in
+    let at3 = at4 .before .before in
+    let at2 = at3 .before in
+    let at1 = at2 .before .before in
+    let start = at1 .before .before in
+    let g = start .args in
+    let l = at1 .loop in
+    judging-on (g .file .now) (g .asked) (g .version) (l .s) (l .m) _ (l .inv) (at2 .if1 .taken) (at3 .text-end .result)
+    (at3 .text-end .ensures .0) _ refl (at4 .row-of .result) (at4 .row-of .ensures) (at5 .shaped .result) (at5 .shaped .ensures)
+    (not-false _ (c .before .before .if2 .left)) _ (c .after-record .ensures) _ (c .before .more .ensures)
 
 ended-requires : tie.Need-ended-requires Inv-loop μ-loop
 ended-requires c κs = c .before .before .loop .inv .bounded .place

@@ -15,13 +15,18 @@ numbered-requires c κs =
     ((c .before .before .pre .0 .1, omega arith), row-room (g .«record» .now) (g .row) (c .before .before .pre .1 .0) (c .before .before .pre .1 .1))
 
 follows-requires : tie.Need-follows-requires
-follows-requires c κs = let g = c .before .before .before .before .before .args in (c .before .before .before .before .before .pre .0 .0, row-six (g .«record» .now) (g .row) (c .before .before .before .before .before .pre .1 .0))
+follows-requires c κs =
+    let start = c .before .before .before .before .before in
+    let g = start .args in (start .pre .0 .0, row-six (g .«record» .now) (g .row) (start .pre .1 .0))
 
 returns : tie.Need-returns
 returns c =
-    let g = c .before .before .before .before .before .before .before .before .before .args in
-    faults-more (g .«record» .now) (g .row) (c .before .before .before .before .before .before .before .before .before .pre .1 .0) (g .asked) (faultsOf (g .m)) (classAt (g .s .place)) (tally (g .s .counts)) _
-    (c .before .before .before .follows .result) (c .before .before .before .before .before .before .numbered .result) (c .before .before .before .follows .ensures) (c .before .before .before .before .before .before .numbered .ensures)
+    let at2 = c .before .before .before in
+    let at1 = at2 .before .before .before in
+    let start = at1 .before .before .before in
+    let g = start .args in
+    faults-more (g .«record» .now) (g .row) (start .pre .1 .0) (g .asked) (faultsOf (g .m)) (classAt (g .s .place)) (tally (g .s .counts)) _
+    (at2 .follows .result) (at1 .numbered .result) (at2 .follows .ensures) (at1 .numbered .ensures)
     (c .before .before .first .ensures) (c .before .first2 .ensures) (c .first3 .ensures)
 
 pub more-spec : {M : Type 1} → statement M

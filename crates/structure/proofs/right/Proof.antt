@@ -11,11 +11,18 @@ returns c = λ e. absurd (false≢true e)
 
 returns-2 : tie.Need-returns-2
 returns-2 c =
-    let g = c .before .before .before .before .before .before .before .before .before .before .before .before .before .args in
-    right-at (g .file .now) (g .asked) (g .s) (g .row) (c .before .before .before .before .before .before .before .before .before .before .size .result) (c .before .before .before .before .before .before .before .before .before .before .size .ensures) _ refl
-    (c .before .before .before .before .before .before .before .before .before .before .before .before .before .pre .0 .inside) (c .before .before .before .before .before .before .before .before .before .if1 .left) (c .before .before .before .before .before .before .before .before .before .before .before .before .before .pre .2 .type)
-    (c .before .before .before .before .is-type .result) (c .before .before .before .pair-at .result) (c .before .before .all-text .result) (c .before .follows .result) (c .numbered .result)
-    (c .before .before .before .before .is-type .ensures) (c .before .before .before .pair-at .ensures) (c .before .before .all-text .ensures) (c .before .follows .ensures) (c .numbered .ensures)
+    let at6 = c .before in
+    let at5 = at6 .before in
+    let at4 = at5 .before in
+    let at3 = at4 .before in
+    let at2 = at3 .before .before .before .before .before in
+    let at1 = at2 .before in
+    let start = at1 .before .before .before in
+    let g = start .args in
+    right-at (g .file .now) (g .asked) (g .s) (g .row) (at1 .size .result) (at1 .size .ensures) _ refl
+    (start .pre .0 .inside) (at2 .if1 .left) (start .pre .2 .type)
+    (at3 .is-type .result) (at4 .pair-at .result) (at5 .all-text .result) (at6 .follows .result) (c .numbered .result)
+    (at3 .is-type .ensures) (at4 .pair-at .ensures) (at5 .all-text .ensures) (at6 .follows .ensures) (c .numbered .ensures)
 
 pub right-spec : {M : Type 1} → statement M
 right-spec =

@@ -17,23 +17,45 @@ lines-from-requires c κs =
 
 judge-requires : tie.Need-judge-requires
 judge-requires c κs =
-    let g = c .before .before .before .before .before .before .before .before .args in
-    (c .before .before .before .before .before .before .before .before .pre .0, c .before .before .before .before .before .before .before .before .pre .1, lines-good (g .asked) (g .version) (classAt (g .s .place)) (tally (g .s .counts)) (c .before .before .before .before .before .index .result) (c .before .before .before .before .before .index .ensures) (lines (drop (g .s .at) (g .file .now))) _ (sym (c .before .before .before .before .lines-from .ensures) ∙ c .before .before .n2 .given .1))
+    let at2 = c .before .before .before .before in
+    let at1 = at2 .before in
+    let start = at1 .before .before .before in
+    let g = start .args in (
+      start .pre .0,
+      start .pre .1,
+      lines-good (g .asked) (g .version) (classAt (g .s .place)) (tally (g .s .counts))
+          (at1 .index .result) (at1 .index .ensures) (lines (drop (g .s .at) (g .file .now))) _
+          (sym (at2 .lines-from .ensures) ∙ c .before .before .n2 .given .1),
+    )
 
 returns : tie.Need-returns
 returns c =
-    let g = c .before .before .before .before .before .before .before .args in
-    lines-fault (g .asked) (g .version) (classAt (g .s .place)) (tally (g .s .counts)) (c .before .before .before .before .index .result) (c .before .before .before .before .index .ensures) (lines (drop (g .s .at) (g .file .now))) _ (sym (c .before .before .before .lines-from .ensures) ∙ c .before .n .given .1)
+    let at2 = c .before .before .before in
+    let at1 = at2 .before in
+    let start = at1 .before .before .before in
+    let g = start .args in
+    lines-fault (g .asked) (g .version) (classAt (g .s .place)) (tally (g .s .counts)) (at1 .index .result) (at1 .index .ensures)
+    (lines (drop (g .s .at) (g .file .now))) _ (sym (at2 .lines-from .ensures) ∙ c .before .n .given .1)
 
 returns-2 : tie.Need-returns-2
 returns-2 c =
-    let g = c .before .before .before .before .before .before .before .before .args in
-    lines-many (g .asked) (g .version) (classAt (g .s .place)) (tally (g .s .counts)) (c .before .before .before .before .before .index .result) (c .before .before .before .before .before .index .ensures) (lines (drop (g .s .at) (g .file .now))) _ (sym (c .before .before .before .before .lines-from .ensures) ∙ c .before .before .n2 .given .1) (c .if1 .taken)
+    let at2 = c .before .before .before .before in
+    let at1 = at2 .before in
+    let start = at1 .before .before .before in
+    let g = start .args in
+    lines-many (g .asked) (g .version) (classAt (g .s .place)) (tally (g .s .counts)) (at1 .index .result) (at1 .index .ensures)
+    (lines (drop (g .s .at) (g .file .now))) _ (sym (at2 .lines-from .ensures) ∙ c .before .before .n2 .given .1) (c .if1 .taken)
 
 returns-3 : tie.Need-returns-3
 returns-3 c =
-    let g = c .before .before .before .before .before .before .before .before .before .args in
-    c .judge .ensures ∙ lines-few (g .asked) (g .version) (classAt (g .s .place)) (tally (g .s .counts)) (c .before .before .before .before .before .before .index .result) (c .before .before .before .before .before .before .index .ensures) (lines (drop (g .s .at) (g .file .now))) _ (sym (c .before .before .before .before .before .lines-from .ensures) ∙ c .before .before .before .n2 .given .1) (c .before .if1 .left)
+    let at3 = c .before .before .before in
+    let at2 = at3 .before .before in
+    let at1 = at2 .before in
+    let start = at1 .before .before .before in
+    let g = start .args in
+    c .judge .ensures ∙ lines-few (g .asked) (g .version) (classAt (g .s .place)) (tally (g .s .counts)) (at1 .index .result)
+    (at1 .index .ensures) (lines (drop (g .s .at) (g .file .now))) _ (sym (at2 .lines-from .ensures) ∙ at3 .n2 .given .1)
+    (c .before .if1 .left)
 
 pub scan-spec : {M : Type 1} → statement M
 scan-spec =

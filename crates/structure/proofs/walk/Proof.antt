@@ -18,8 +18,9 @@ abbrev μ-loop : tie.MeasureT-loop
 
 loop-holds : tie.Need-loop-holds Inv-loop μ-loop
 loop-holds c =
+    let start = c .before .before .before in
     let z = c .zero in
-    stood-start (c .before .before .before .args .file .now) (c .before .before .before .args .asked) (z .result) (z .ensures .0) (z .ensures .1 .0 .0) (z .ensures .1 .1)
+    stood-start (start .args .file .now) (start .args .asked) (z .result) (z .ensures .0) (z .ensures .1 .0 .0) (z .ensures .1 .1)
 
 sub-if1 : tie.Need-sub-if1 Inv-loop μ-loop
 sub-if1 c = omega (arith, c .loop .inv .bounded .inside)
@@ -29,7 +30,11 @@ returns c = c .before .loop .inv
 
 right-requires : tie.Need-right-requires Inv-loop μ-loop
 right-requires c κs =
-    (c .before .before .before .before .before .before .loop .inv .bounded, c .before .before .before .before .before .before .before .before .before .before .pre, row-roomy (c .before .before .before .before .before .before .before .before .table .result) (c .before .before .before .before .before .before .before .before .table .ensures) (c .before .hint .result) (c .before .hint .ensures) _)
+    let at3 = c .before in
+    let at2 = at3 .before .before .before .before .before in
+    let at1 = at2 .before .before in
+    let start = at1 .before .before in
+    (at2 .loop .inv .bounded, start .pre, row-roomy (at1 .table .result) (at1 .table .ensures) (at3 .hint .result) (at3 .hint .ensures) _)
 
 returns-2 : tie.Need-returns-2 Inv-loop μ-loop
 returns-2 c = c .before .before .before .before .before .before .before .before .loop .inv
@@ -46,9 +51,14 @@ loop-less c =
 
 loop-again : tie.Need-loop-again Inv-loop μ-loop
 loop-again c =
+    let at3 = c .before .before .before .before in
+    let at2 = at3 .before .before .before .before .before in
+    let at1 = at2 .before .before in
+    let start = at1 .before .before in
     let r = c .before .before .right .ensures (not-false _ (c .before .if2 .left)) in
-    stood-by (c .before .before .before .before .before .before .before .before .before .before .before .table .result) (c .before .before .before .before .before .before .before .before .before .before .before .table .ensures) (c .before .before .before .before .hint .result) (c .before .before .before .before .hint .ensures) _ (c .before .before .before .before .before .before .before .before .before .before .before .before .before .args .file .now) (c .before .before .before .before .before .before .before .before .before .before .before .before .before .args .asked) (c .before .before .before .before .before .before .before .before .before .loop .s) _
-    (c .before .before .before .before .before .before .before .before .before .loop .inv) r (c .after-record .ensures)
+    stood-by (at1 .table .result) (at1 .table .ensures) (at3 .hint .result) (at3 .hint .ensures) _ (start .args .file .now)
+    (start .args .asked) (at2 .loop .s) _
+    (at2 .loop .inv) r (c .after-record .ensures)
 
 pub walk-spec : {M : Type 1} → statement M
 walk-spec =

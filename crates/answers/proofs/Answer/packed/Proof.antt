@@ -11,7 +11,10 @@ returns : tie.Need-returns
 returns c = ap packedOf (sym (told-passed (answerOf (c .before .before .args .self)) (c .before .told .result) (c .before .told .ensures .0) (c .if1 .taken)))
 
 returns-2 : tie.Need-returns-2
-returns-2 c = c .pack .ensures ∙ ap packedOf (sym (told-refused (answerOf (c .before .before .before .args .self)) (c .before .before .told .result) (c .before .before .told .ensures .0) (c .before .if1 .left)))
+returns-2 c =
+    let at1 = c .before .before in
+    let start = at1 .before in
+    c .pack .ensures ∙ ap packedOf (sym (told-refused (answerOf (start .args .self)) (at1 .told .result) (at1 .told .ensures .0) (c .before .if1 .left)))
 
 pub packed-spec : {M : Type 1} → statement M
 packed-spec = tie.close (tie.spec (λ c κs. search needs) returns (λ c κs. search needs) returns-2)

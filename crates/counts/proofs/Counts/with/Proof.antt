@@ -18,7 +18,8 @@ returns c =
     let at = c .before .before in
     let g = at .before .before .before .before .before in
     let n = g .args .self in
-    let next = grown-at _ (g .args .place) 1 (n .«in_group») (n .«in_transaction») (at .match .keys1) (at .before .before .before .before .grown .ensures) in
+    let next = grown-at _ (g .args .place) 1 (n .«in_group») (n .«in_transaction») (at .match .keys1)
+    (at .before .before .before .before .grown .ensures) in
     (counted _ _ _ 1 (at .match .keys1) (omega arith), ((omega arith, (zero-word, zero-word, next, two-word)), omega arith))
 
 returns-2 : tie.Need-returns-2
@@ -26,7 +27,8 @@ returns-2 c =
     let at = c .before .before .before in
     let g = at .before .before .before .before .before in
     let n = g .args .self in
-    let next = grown-at _ (g .args .place) 2 (n .«in_group») (n .«in_transaction») (at .match .keys2) (at .before .before .before .before .grown .ensures) in (
+    let next = grown-at _ (g .args .place) 2 (n .«in_group») (n .«in_transaction») (at .match .keys2)
+    (at .before .before .before .before .grown .ensures) in (
       counted _ _ _ 2 (at .match .keys2) (omega arith),
       ((omega arith, (next, one-before _ (n .«in_group») (g .pre .0 .1 .0), one-word, at .before .before .next-eight .ensures)), omega arith),
     )

@@ -8,7 +8,8 @@ use Rattle.tally.proofs.Tally.start.Tie as tie
 returns : tie.Need-returns
 unfolding lastSequence
 returns c =
-    record { totals = c .before .before .zero .ensures .0; below = c .before .before .zero .ensures .1; order = c .before .outset .ensures; marks = c .none .ensures; last = refl }
+    let at1 = c .before .before in
+    record { totals = at1 .zero .ensures .0; below = at1 .zero .ensures .1; order = c .before .outset .ensures; marks = c .none .ensures; last = refl }
 
 pub start-spec : {M : Type 1} → statement M
 start-spec = tie.close (tie.spec (λ c κs. search needs) (λ c κs. search needs) (λ c κs. search needs) returns)

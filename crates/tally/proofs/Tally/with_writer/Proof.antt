@@ -11,12 +11,15 @@ use Rattle.tally.proofs.Tally.with_writer.Tie as tie
 
 returns : tie.Need-returns
 returns c ds r k d p q s =
+    let at1 = c .before .before in
+    let start = at1 .before .before .before .before in
     let code = designationInForce r in
     record {
-      totals = c .before .before .with-writer .ensures .0 ds r (k .totals) p s;
-      below = below-on _ ds r (c .before .before .with-writer .ensures .1 (99999 * length ds) (k .below));
+      totals = at1 .with-writer .ensures .0 ds r (k .totals) p s;
+      below = below-on _ ds r (at1 .with-writer .ensures .1 (99999 * length ds) (k .below));
       order = c .before .with .ensures ds r (d .0) (d .1) (k .order);
-      marks = c .with-writer2 .ensures ds r (k .marks) p (creator-at code (c .before .before .before .before .before .before .args .place) q) (changer-at code (c .before .before .before .before .before .before .args .place) q) (author-at code (c .before .before .before .before .before .before .args .place) q);
+      marks = c .with-writer2 .ensures ds r (k .marks) p (creator-at code (start .args .place) q)
+          (changer-at code (start .args .place) q) (author-at code (start .args .place) q);
       last = k .last ∙ sym (last-kept ds r (writer-no-publisher r p));
     }
 

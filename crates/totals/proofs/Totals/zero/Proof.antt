@@ -8,7 +8,11 @@ use Rattle.totals.proofs.Totals.zero.Tie as tie
 
 returns : tie.Need-returns
 unfolding publishersTotal writersTotal
-returns c = rw (c .none .ensures) (record { publishers = refl; writers = refl }, ((omega arith, omega arith, omega arith), (omega arith, omega arith, omega arith)))
+returns c =
+    rw (c .none .ensures) (
+      record { publishers = refl; writers = refl },
+      ((omega arith, omega arith, omega arith), (omega arith, omega arith, omega arith)),
+    )
 
 pub zero-spec : {M : Type 1} → statement M
 zero-spec = tie.close (tie.spec (λ c κs. search needs) returns)

@@ -4,7 +4,9 @@ use Rattle.tally.proofs.marks.Marks.with_writer.Statement.{statement}
 use Rattle.tally.proofs.marks.Marks.with_writer.Tie as tie
 
 returns : tie.Need-returns
-returns c ds r h w cs gs us = writer-on (c .before .before .before .args .self) ds r h (c .before .before .before .args .creator) (c .before .before .before .args .changer) (c .before .before .before .args .author) w cs gs us
+returns c ds r h w cs gs us =
+    let start = c .before .before .before in
+    writer-on (start .args .self) ds r h (start .args .creator) (start .args .changer) (start .args .author) w cs gs us
 
 pub with-writer-spec : {M : Type 1} → statement M
 with-writer-spec = tie.close (tie.spec returns)
