@@ -4,7 +4,7 @@ ghost use mathlib.Core.Bool.{Bool};
 ghost use mathlib.Core.List.{List, [], _∷_};
 ghost use Prim.Native.Nat.{_+_, _*_, _<_, _≤_};
 ghost use lib.ListN.{length};
-ghost use Rattle.rules.specs.Findings.{setOf, larger};
+ghost use Rattle.rules.specs.Findings.{setOf};
 ghost use Rattle.rules.specs.Verdicts.{raised};
 ghost use Rattle.buffers.specs.Written.{Written};
 
@@ -21,20 +21,13 @@ pub fn settle(index: usize, set: u64, verdict: u8, verdicts: &mut [u8], findings
     findings::put(set, &mut findings[start..end]);
 }
 
-// The larger of two. It only picks, so that the loop of `raise` is compiled to a maximum of sixteen verdicts at once.
-fn larger_of(a: u8, b: u8) -> u8
-    ensures { λ r. ⌜ r ≡ larger a b ⌝ }
-{
-    if a <= b { b } else { a }
-}
-
 // Leaves no verdict below `least` in this part.
 pub fn raise(part: &mut [u8], least: u8)
     ensures { λ _. ⌜ now (part .exit) ≡ raised least (now (part .entry)) ⌝ }
 {
     let mut i = 0;
     while i < part.len() {
-        part[i] = larger_of(least, part[i]);
+        part[i] = findings::larger(least, part[i]);
         i += 1;
     }
 }

@@ -14,8 +14,7 @@ use Rattle.rules.specs.Records.{isType}
 use Rattle.rules.specs.Other.{is43, releaseDate, releaseDuration, is44, is45, is46, dateInForce, durationInForce}
 use Rattle.format.proofs.Tests.{both}
 use Rattle.values.proofs.Laws.{spelled}
-use Rattle.edits.proofs.Levels.{clash}
-use Rattle.edits.proofs.Types.{not-other, not-third}
+use Rattle.edits.proofs.Types.{clash, not-other, not-third}
 
 -- ---- bytes compared
 

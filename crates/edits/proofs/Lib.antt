@@ -1,5 +1,4 @@
 -- The laws that the proofs cite; Own and Types serve whoever calls these functions, too.
-pub mod Levels
 pub mod Types
 pub mod Own
 pub mod Places

@@ -15,6 +15,7 @@ use Rattle.rules.specs.Writer.{is38, is39, is40, is41, is42}
 use Rattle.rules.specs.Other.{is24, is43, is44, is45, is46}
 use Rattle.rules.specs.Findings.{fieldFindings, ownFindings, setOf, worst}
 use Rattle.format.proofs.Tests.{by-cases}
+use Rattle.findings.specs.Many.{many}
 use Rattle.findings.proofs.Laws.{set-padded, worst-padded}
 use Rattle.edits.specs.declared.Found.{Found}
 use Rattle.edits.specs.Judged.{Judged}
@@ -49,9 +50,9 @@ module _ (r : Bytes) where
 
 -- ---- a list of findings by the kinds of records that may have them
 
--- how many findings there are after these: only here is it said how many there are in all
+-- how many findings there are after these
 abbrev after : List Bool → ℕ
-after bs = 47 - length bs
+after bs = many - length bs
 
 -- these findings from 0 on, and none of those after them
 abbrev upToLast : List Bool → List Bool

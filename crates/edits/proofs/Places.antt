@@ -17,7 +17,7 @@ use Rattle.rules.specs.Writer.{designation, is40, default40, designationInForce
 use Rattle.format.proofs.Tests.{by-cases, both, same→eq}
 use Rattle.values.proofs.Laws.{spelled}
 use Rattle.edits.specs.Places.{placeFrom, placeOf}
-use Rattle.edits.proofs.Levels.{clash}
+use Rattle.edits.proofs.Types.{clash}
 
 -- ---- a code that isn't there
 

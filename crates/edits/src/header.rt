@@ -1,12 +1,9 @@
 // NWR and REV.
 ghost use mathlib.Core.Path.{_≡_};
-ghost use mathlib.Core.Bool.{false};
-ghost use mathlib.Core.List.{List, [], _∷_, _++_};
-ghost use lib.ListN.{replicate};
+ghost use mathlib.Core.List.{List};
 ghost use Rattle.format.specs.Bytes.{Bytes};
 ghost use Rattle.rules.specs.Tables.{Tables};
 ghost use Rattle.rules.specs.Header.{isSerious, is16, is17, is18, is19, is20, is21, is22, is23};
-ghost use Rattle.rules.specs.Findings.{setOf, worst};
 ghost use Rattle.tables.specs.Index.{Indexed};
 ghost use Rattle.edits.specs.Kinds.{Header};
 ghost use Rattle.edits.specs.Judged.{Judged};
@@ -95,31 +92,6 @@ fn found_23(record: &[u8]) -> bool
     !serious(record) & !values::duration(text::field(record, 130, 6))
 }
 
-fn gather(
-    b16: bool,
-    b17: bool,
-    b18: bool,
-    b19: bool,
-    b20: bool,
-    b21: bool,
-    b22: bool,
-    b23: bool,
-) -> Found
-    ensures { λ r. ⌜ r .set ≡ setOf (replicate 16 false ++ b16 ∷ b17 ∷ b18 ∷ b19 ∷ b20 ∷ b21 ∷ b22 ∷ b23 ∷ []) ⌝ }
-    ensures { λ r. ⌜ r .level ≡ worst (replicate 16 false ++ b16 ∷ b17 ∷ b18 ∷ b19 ∷ b20 ∷ b21 ∷ b22 ∷ b23 ∷ []) ⌝ }
-{
-    let set = findings::weigh(b16, 0x10000)
-        + findings::weigh(b17, 0x20000)
-        + findings::weigh(b18, 0x40000)
-        + findings::weigh(b19, 0x80000)
-        + findings::weigh(b20, 0x100000)
-        + findings::weigh(b21, 0x200000)
-        + findings::weigh(b22, 0x400000)
-        + findings::weigh(b23, 0x800000);
-    let level = super::worst(b16 | (b17 | (b18 | (b21 | b22))), false, b19 | (b20 | b23));
-    Found { set, level }
-}
-
 // The tables are asked by the indexes made of them.
 pub fn judge(
     record: &[u8],
@@ -133,14 +105,17 @@ pub fn judge(
     requires { ⌜ Indexed 3 (now categories) (now «category_slots») ⌝ }
     ensures { λ r. ⌜ ((tables : Tables) → tables .languages ≡ now (languages .entry) → tables .categories ≡ now (categories .entry) → (before : List Bytes) → Judged tables before (now («record» .entry)) r) ⌝ }
 {
-    gather(
-        found_16(record),
-        found_17(record, languages, language_slots),
-        found_18(record),
-        found_19(record),
-        found_20(record),
-        found_21(record, categories, category_slots),
-        found_22(record),
-        found_23(record),
+    super::gather(
+        16,
+        &[
+            found_16(record),
+            found_17(record, languages, language_slots),
+            found_18(record),
+            found_19(record),
+            found_20(record),
+            found_21(record, categories, category_slots),
+            found_22(record),
+            found_23(record),
+        ],
     )
 }

@@ -1,7 +1,12 @@
 // The findings on one record: one function finds each, and one for each kind of record puts those that it can have into a set, with the
 // largest verdict among them. Records of no kind named here have none.
 ghost use mathlib.Core.Path.{_≡_};
-ghost use mathlib.Core.Bool.{cond};
+ghost use mathlib.Core.Bool.{false, cond};
+ghost use mathlib.Core.List.{_++_};
+ghost use Prim.Native.Nat.{_+_, _≤_};
+ghost use lib.ListN.{length, replicate};
+ghost use Rattle.rules.specs.Findings.{setOf, worst};
+ghost use Rattle.findings.specs.Many.{many};
 
 pub mod header;
 pub mod other;
@@ -14,22 +19,20 @@ pub struct Found {
     pub level: u8,
 }
 
-// The verdicts.
-pub const FR: u8 = 1;
-
-pub const RR: u8 = 2;
-
-pub const TR: u8 = 3;
-
 pub fn pick(c: bool, a: u8, b: u8) -> u8
     ensures { λ r. ⌜ r ≡ cond c a b ⌝ }
 {
     if c { a } else { b }
 }
 
-// The largest verdict, where findings of each level hold or not.
-fn worst(tr: bool, rr: bool, fr: bool) -> u8
-    ensures { λ r. ⌜ r ≡ cond tr 3 (cond rr 2 (cond fr 1 0)) ⌝ }
+// The findings from number `first` on hold or not, and no other does.
+pub fn gather(first: usize, holds: &[bool]) -> Found
+    requires { ⌜ first + length (now holds) ≤ many ⌝ }
+    ensures { λ r. ⌜ r .set ≡ setOf (replicate first false ++ now (holds .entry)) ⌝ }
+    ensures { λ r. ⌜ r .level ≡ worst (replicate first false ++ now (holds .entry)) ⌝ }
 {
-    pick(tr, TR, pick(rr, RR, pick(fr, FR, 0)))
+    Found {
+        set: findings::pack(first, holds),
+        level: findings::worst(first, holds),
+    }
 }

@@ -1,14 +1,13 @@
 // SPU and OPU.
 ghost use mathlib.Core.Path.{_≡_};
-ghost use mathlib.Core.Bool.{false, not};
-ghost use mathlib.Core.List.{List, [], _∷_, _++_};
+ghost use mathlib.Core.Bool.{not};
+ghost use mathlib.Core.List.{List, [], _∷_};
 ghost use Prim.Native.Nat.{_≤_};
-ghost use lib.ListN.{length, replicate};
+ghost use lib.ListN.{length};
 ghost use Rattle.format.specs.Bytes.{Bytes, sameBytes};
 ghost use Rattle.rules.specs.Tables.{Tables, publisherTypes};
 ghost use Rattle.rules.specs.Records.{isType};
 ghost use Rattle.rules.specs.Publisher.{publisherType, typeInForce, hasShare, strange, earlierE, is25, is26, is27, is28, is29, is30, is31, is32, is33, is34, is35, is36, is37};
-ghost use Rattle.rules.specs.Findings.{setOf, worst};
 ghost use Rattle.tables.specs.Index.{Indexed};
 ghost use Rattle.edits.specs.Kinds.{Publisher};
 ghost use Rattle.edits.specs.Places.{placeOf};
@@ -242,43 +241,6 @@ fn found_37(record: &[u8]) -> bool
 
 // ---- together
 
-fn gather(
-    b25: bool,
-    b26: bool,
-    b27: bool,
-    b28: bool,
-    b29: bool,
-    b30: bool,
-    b31: bool,
-    b32: bool,
-    b33: bool,
-    b34: bool,
-    b35: bool,
-    b36: bool,
-    b37: bool,
-) -> Found
-    ensures { λ r. ⌜ r .set ≡ setOf (replicate 25 false ++ b25 ∷ b26 ∷ b27 ∷ b28 ∷ b29 ∷ b30 ∷ b31 ∷ b32 ∷ b33 ∷ b34 ∷ b35 ∷ b36 ∷ b37 ∷ []) ⌝ }
-    ensures { λ r. ⌜ r .level ≡ worst (replicate 25 false ++ b25 ∷ b26 ∷ b27 ∷ b28 ∷ b29 ∷ b30 ∷ b31 ∷ b32 ∷ b33 ∷ b34 ∷ b35 ∷ b36 ∷ b37 ∷ []) ⌝ }
-{
-    let set = findings::weigh(b25, 0x2000000)
-        + findings::weigh(b26, 0x4000000)
-        + findings::weigh(b27, 0x8000000)
-        + findings::weigh(b28, 0x10000000)
-        + findings::weigh(b29, 0x20000000)
-        + findings::weigh(b30, 0x40000000)
-        + findings::weigh(b31, 0x80000000)
-        + findings::weigh(b32, 0x100000000)
-        + findings::weigh(b33, 0x200000000)
-        + findings::weigh(b34, 0x400000000)
-        + findings::weigh(b35, 0x800000000)
-        + findings::weigh(b36, 0x1000000000)
-        + findings::weigh(b37, 0x2000000000);
-    let tr = b25 | (b26 | (b27 | (b28 | (b29 | (b30 | (b31 | b32))))));
-    let fr = b33 | (b34 | (b35 | (b36 | b37)));
-    let level = super::worst(tr, false, fr);
-    Found { set, level }
-}
-
 // last is the sequence number of the publisher record before, and known says that an E SPU of the chain stands before.
 pub fn judge(record: &[u8], societies: &[u8], slots: &[u16], last: u64, known: bool) -> Found
     requires { ⌜ Publisher (now «record») ⌝ }
@@ -289,19 +251,22 @@ pub fn judge(record: &[u8], societies: &[u8], slots: &[u16], last: u64, known: b
     let place = type_place(record);
     let force = in_force(record, place);
     let held = read_shares(record);
-    gather(
-        found_25(record, last),
-        found_26(record),
-        found_27(record),
-        found_28(record, place),
-        found_29(record),
-        held.bad,
-        found_31(record, force, held.some),
-        found_32(record, force, known),
-        found_33(record),
-        found_34(record),
-        found_35(record, place),
-        found_36(record, societies, slots),
-        found_37(record),
+    super::gather(
+        25,
+        &[
+            found_25(record, last),
+            found_26(record),
+            found_27(record),
+            found_28(record, place),
+            found_29(record),
+            held.bad,
+            found_31(record, force, held.some),
+            found_32(record, force, known),
+            found_33(record),
+            found_34(record),
+            found_35(record, place),
+            found_36(record, societies, slots),
+            found_37(record),
+        ],
     )
 }

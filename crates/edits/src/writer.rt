@@ -1,13 +1,11 @@
 // SWR and OWR.
 ghost use mathlib.Core.Path.{_≡_};
-ghost use mathlib.Core.Bool.{false, not};
-ghost use mathlib.Core.List.{List, [], _∷_, _++_};
-ghost use lib.ListN.{replicate};
+ghost use mathlib.Core.Bool.{not};
+ghost use mathlib.Core.List.{List};
 ghost use Rattle.format.specs.Bytes.{Bytes};
 ghost use Rattle.rules.specs.Tables.{Tables, designations};
 ghost use Rattle.rules.specs.Records.{isType};
 ghost use Rattle.rules.specs.Writer.{designation, designationInForce, is38, is39, is40, is41, is42};
-ghost use Rattle.rules.specs.Findings.{setOf, worst};
 ghost use Rattle.edits.specs.Kinds.{Writer};
 ghost use Rattle.edits.specs.Places.{placeOf};
 ghost use Rattle.edits.specs.Judged.{Judged};
@@ -89,29 +87,19 @@ fn found_42(record: &[u8]) -> bool
     is_swr(record) & text::blank(text::field(record, 20, 9))
 }
 
-fn gather(b38: bool, b39: bool, b40: bool, b41: bool, b42: bool) -> Found
-    ensures { λ r. ⌜ r .set ≡ setOf (replicate 38 false ++ b38 ∷ b39 ∷ b40 ∷ b41 ∷ b42 ∷ []) ⌝ }
-    ensures { λ r. ⌜ r .level ≡ worst (replicate 38 false ++ b38 ∷ b39 ∷ b40 ∷ b41 ∷ b42 ∷ []) ⌝ }
-{
-    let set = findings::weigh(b38, 0x4000000000)
-        + findings::weigh(b39, 0x8000000000)
-        + findings::weigh(b40, 0x10000000000)
-        + findings::weigh(b41, 0x20000000000)
-        + findings::weigh(b42, 0x40000000000);
-    let level = super::worst(b38 | (b39 | (b41 | b42)), false, b40);
-    Found { set, level }
-}
-
 pub fn judge(record: &[u8]) -> Found
     requires { ⌜ Writer (now «record») ⌝ }
     ensures { λ r. ⌜ ((tables : Tables) (before : List Bytes) → Judged tables before (now («record» .entry)) r) ⌝ }
 {
     let place = designation_in_force(record);
-    gather(
-        found_38(record),
-        found_39(record, place),
-        found_40(record, place),
-        found_41(record),
-        found_42(record),
+    super::gather(
+        38,
+        &[
+            found_38(record),
+            found_39(record, place),
+            found_40(record, place),
+            found_41(record),
+            found_42(record),
+        ],
     )
 }

@@ -1,16 +1,129 @@
-// Sets of findings as numbers, bit n for finding n: how many are in one, the lowest, and its eight bytes.
+// Findings as sets, which are numbers with bit n for finding n, and as verdicts: a row of findings that hold or not packed into a set, the
+// largest verdict among them, and of a set how many are in it, the lowest, and its eight bytes.
 ghost use mathlib.Core.Path.{_≡_};
-ghost use mathlib.Core.Bool.{cond};
-ghost use Prim.Native.Nat.{_≤_};
-ghost use lib.ListN.{length};
-ghost use Rattle.rules.specs.Findings.{places, countOf, lowestOf, bytesOf};
+ghost use Prim.Native.Nat.{_+_, _≤_};
+ghost use mathlib.Core.Bool.{false, cond};
+ghost use mathlib.Core.List.{_++_};
+ghost use lib.ListN.{length, replicate};
+ghost use Rattle.rules.specs.Findings.{setOf, places, countOf, lowestOf, bytesOf, larger, worst};
+ghost use Rattle.findings.specs.Many.{many};
 
-// What a finding adds to a set: its weight where it holds.
-pub fn weigh(holds: bool, weight: u64) -> u64
-    ensures { λ r. ⌜ r ≡ cond holds weight 0 ⌝ }
-    ensures { λ r. ⌜ r ≤ weight ⌝ }
+// A finding as a bit: 1 where it holds.
+pub fn bit(holds: bool) -> u64
+    ensures { λ r. ⌜ r ≡ cond holds 1 0 ⌝ }
+    ensures { λ r. ⌜ r ≤ 1 ⌝ }
 {
-    if holds { weight } else { 0 }
+    if holds { 1 } else { 0 }
+}
+
+// The set of the findings from number `first` on, each of which holds or not.
+pub fn pack(first: usize, holds: &[bool]) -> u64
+    requires { ⌜ first + length (now holds) ≤ many ⌝ }
+    ensures { λ r. ⌜ r ≡ setOf (replicate first false ++ now (holds .entry)) ⌝ }
+{
+    let mut set = 0;
+    let mut i = holds.len();
+    while 0 < i {
+        i -= 1;
+        set = 2 * set + bit(holds[i]);
+    }
+    set << first
+}
+
+// The larger of two verdicts. It only picks, so that a loop over many is compiled to a maximum of sixteen at once.
+pub fn larger(a: u8, b: u8) -> u8
+    ensures { λ r. ⌜ r ≡ larger a b ⌝ }
+{
+    if a <= b { b } else { a }
+}
+
+// The verdicts: field defaulted, record rejected, transaction rejected, group rejected.
+pub const FR: u8 = 1;
+
+pub const RR: u8 = 2;
+
+pub const TR: u8 = 3;
+
+pub const GR: u8 = 4;
+
+// The verdict that each finding brings.
+const VERDICTS: [u8; 47] = [
+    // 0 to 15, which hang on a whole transaction
+    GR,
+    TR,
+    TR,
+    TR,
+    TR,
+    TR,
+    TR,
+    TR,
+    TR,
+    TR,
+    TR,
+    TR,
+    TR,
+    TR,
+    TR,
+    TR,
+    // 16 to 23, of headers
+    TR,
+    TR,
+    TR,
+    FR,
+    FR,
+    TR,
+    TR,
+    FR,
+    // 24
+    RR,
+    // 25 to 37, of publishers
+    TR,
+    TR,
+    TR,
+    TR,
+    TR,
+    TR,
+    TR,
+    TR,
+    FR,
+    FR,
+    FR,
+    FR,
+    FR,
+    // 38 to 42, of writers
+    TR,
+    TR,
+    FR,
+    TR,
+    TR,
+    // 43
+    RR,
+    // 44 to 46, of recordings
+    RR,
+    FR,
+    FR,
+];
+
+// What a finding brings where it holds.
+fn brought(holds: bool, verdict: u8) -> u8
+    ensures { λ r. ⌜ r ≡ cond holds verdict 0 ⌝ }
+{
+    if holds { verdict } else { 0 }
+}
+
+// The largest verdict of the findings from number `first` on, each of which holds or not.
+pub fn worst(first: usize, holds: &[bool]) -> u8
+    requires { ⌜ first + length (now holds) ≤ many ⌝ }
+    ensures { λ r. ⌜ r ≡ worst (replicate first false ++ now (holds .entry)) ⌝ }
+{
+    let verdicts = VERDICTS;
+    let mut most = 0;
+    let mut i = holds.len();
+    while 0 < i {
+        i -= 1;
+        most = larger(brought(holds[i], verdicts[first + i]), most);
+    }
+    most
 }
 
 // How many findings are in a set.

@@ -1,18 +1,19 @@
--- Findings 0 to 15 before the others: their set, their levels. Assumes nothing.
+-- Findings 0 to 15 before the others: their set, their verdicts. Assumes nothing.
 use mathlib.Core.Path.{_≡_, refl, sym, ap, _∙_}
-use mathlib.Core.Bool.{Bool, true, false, cond, _&&_, _||_, and-false, or-false}
+use mathlib.Core.Bool.{Bool, true, false, cond, _&&_, _||_, and-false}
 use mathlib.Core.Option.{none, some}
 use mathlib.Core.List.{List, [], _∷_, _++_}
 use Prim.Native.Nat.{ℕ, zero, suc, _+_, _*_, _/_, _≤_}
 use native.Mathlib.Omega.{arith}
 use lib.Dec.{leb, eqb, leb·zero, eqb·zero-suc, eqb·suc-zero, eqb·suc-suc}
-use lib.ListN.{replicate}
+use lib.ListN.{length, replicate}
 use borrow.Author.Tests.{leb-true, leb-false, eqb-true, ne-eqb}
 use Rattle.format.specs.Bytes.{Bytes, sameBytes}
 use Rattle.rules.specs.Tables.{Tables}
 use Rattle.rules.specs.Findings.{fieldFindings, ownFindings, setOf, FR, RR, TR, level, verdictOf, larger, worstFrom, worst}
 use Rattle.rules.specs.Verdicts.{rejectsFrom, rejects}
 use Rattle.format.proofs.Tests.{by-cases}
+use Rattle.findings.proofs.Laws.{set-below, set-after, worst-late, worst-after}
 use Rattle.edits.specs.declared.Found.{Found}
 use Rattle.headers.specs.Headed.{Gathered}
 
@@ -91,98 +92,68 @@ later-rejects n (b ∷ bs) =
     rw (rejecting b v, later-rejects (suc n) bs)
     (top-three (cond b v 0) (worstFrom (suc (suc n)) bs) (at-most b v 3 0 (later-level n) (omega arith)) (later-worst (suc n) bs))
 
--- ---- findings that reject the transaction, before others
+-- ---- finding 0, then 1 to 15, then those from 16 on
 
-abbrev oneHolds : List Bool → Bool
-oneHolds [] = false
-oneHolds (b ∷ bs) = b || oneHolds bs
-
--- as the code joins them, from the left
-abbrev joined : Bool → List Bool → Bool
-joined a [] = a
-joined a (b ∷ bs) = joined (a || b) bs
-
-joined-some : (a : Bool) (bs : List Bool) → joined a bs ≡ oneHolds (a ∷ bs)
-joined-some a [] = sym (or-false a)
-joined-some true (b ∷ bs) = joined-some true bs
-joined-some false (b ∷ bs) = joined-some b bs
-
-abbrev largest : List Bool → ℕ → ℕ
-largest [] x = x
-largest (b ∷ bs) x = larger (cond b 3 0) (largest bs x)
-
-either : (a b : Bool) (v x : ℕ) → cond a v (cond b v x) ≡ cond (a || b) v x
-either true b v x = refl
-either false b v x = refl
-
-largest-is : (bs : List Bool) (x : ℕ) → x ≤ 3 → largest bs x ≡ cond (oneHolds bs) 3 x
-largest-is [] x h = refl
-largest-is (b ∷ bs) x h = rw (largest-is bs x h) (over 3 b (cond (oneHolds bs) 3 x) (at-most (oneHolds bs) 3 3 x (omega arith) h) ∙ either b (oneHolds bs) 3 x)
-
-abbrev rejected : List Bool → Bool → Bool
-rejected [] x = x
-rejected (b ∷ bs) x = (b && true) || rejected bs x
-
-rejected-is : (bs : List Bool) (x : Bool) → rejected bs x ≡ (oneHolds bs || x)
-rejected-is [] x = refl
-rejected-is (true ∷ bs) x = refl
-rejected-is (false ∷ bs) x = rejected-is bs x
-
--- ---- findings of which the first sixteen do not hold
-
-set-rest : (rest : List Bool) → setOf (replicate 16 false ++ rest) ≡ 65536 * setOf rest
+-- 1 to 15 leave room for 0
+pub room : (fifteen : List Bool) → length fifteen ≡ 15 → setOf (replicate 1 false ++ fifteen) ≤ 65534
 unfolding setOf
-set-rest rest = omega arith
+room fifteen long = omega (arith, set-below 15 fifteen (omega arith))
 
-worst-rest : (rest : List Bool) → worst (replicate 16 false ++ rest) ≡ worstFrom 16 rest
-unfolding worst level
-worst-rest rest =
-    let h = later-worst 15 rest in
-    ap (larger 0) (largest-is (replicate 15 false) (worstFrom 16 rest) h) ∙ over 4 false (worstFrom 16 rest) (omega arith)
+module _ (stray : Bool) (fifteen rest : List Bool) (long : length fifteen ≡ 15) where
+  abbrev all : List Bool
+  all = stray ∷ fifteen ++ rest
 
--- ---- 0 to 15 before those: b0 rejects the group, the fifteen others the transaction
+  abbrev others : ℕ
+  others = larger (worstFrom 1 fifteen) (worstFrom 16 rest)
 
-module _ (b0 b1 b2 b3 b4 b5 b6 b7 b8 b9 b10 b11 b12 b13 b14 b15 : Bool) (rest : List Bool) where
-  abbrev whole : List Bool
-  whole = b0 ∷ b1 ∷ b2 ∷ b3 ∷ b4 ∷ b5 ∷ b6 ∷ b7 ∷ b8 ∷ b9 ∷ b10 ∷ b11 ∷ b12 ∷ b13 ∷ b14 ∷ b15 ∷ rest
+  worst-others : worstFrom 1 (fifteen ++ rest) ≡ others
+  worst-others = worst-after 1 fifteen rest ∙ rw long
 
-  abbrev fourteen : List Bool
-  fourteen = b2 ∷ b3 ∷ b4 ∷ b5 ∷ b6 ∷ b7 ∷ b8 ∷ b9 ∷ b10 ∷ b11 ∷ b12 ∷ b13 ∷ b14 ∷ b15 ∷ []
-
-  abbrev low : ℕ
-  low = setOf (b0 ∷ b1 ∷ b2 ∷ b3 ∷ b4 ∷ b5 ∷ b6 ∷ b7 ∷ [])
-
-  abbrev high : ℕ
-  high = setOf (b8 ∷ b9 ∷ b10 ∷ b11 ∷ b12 ∷ b13 ∷ b14 ∷ b15 ∷ [])
-
-  set-first : setOf whole ≡ low + 256 * high + 65536 * setOf rest
-  unfolding setOf
-  set-first = omega arith
-
-  worst-first : worst whole ≡ cond b0 4 (cond (oneHolds (b1 ∷ fourteen)) 3 (worstFrom 16 rest))
+  worst-all : worst all ≡ cond stray 4 others
   unfolding worst level
-  worst-first =
-      let tr = oneHolds (b1 ∷ fourteen) in
-      let x = worstFrom 16 rest in
-      let h = later-worst 15 rest in
-      ap (larger (cond b0 4 0)) (largest-is (b1 ∷ fourteen) x h) ∙ over 4 b0 (cond tr 3 x) (at-most tr 3 4 x (omega arith) (omega arith))
+  worst-all =
+      over 4 stray (worstFrom 1 (fifteen ++ rest)) (omega (arith, later-worst 0 (fifteen ++ rest)))
+      ∙ ap (cond stray 4) worst-others
 
-  rejects-first : rejects whole ≡ (oneHolds (b1 ∷ fourteen) || eqb (worstFrom 16 rest) 3)
+  rejects-all : rejects all ≡ (eqb (worstFrom 1 fifteen) 3 || eqb (worstFrom 16 rest) 3)
   unfolding rejects level
-  rejects-first = rw (and-false b0) (rejected-is (b1 ∷ fourteen) (rejectsFrom 16 rest) ∙ ap (λ (x : Bool). oneHolds (b1 ∷ fourteen) || x) (later-rejects 15 rest))
+  rejects-all =
+      rw (and-false stray)
+      (later-rejects 0 (fifteen ++ rest)
+      ∙ ap (λ (x : ℕ). eqb x 3) worst-others
+      ∙ sym (top-three (worstFrom 1 fifteen) (worstFrom 16 rest) (later-worst 0 fifteen) (later-worst 15 rest)))
 
-  -- as the code has them, o being what is known of the others
-  module _ (o : Found) (set : o .set ≡ setOf (replicate 16 false ++ rest)) (level : o .level ≡ worst (replicate 16 false ++ rest)) where
-    others : o .level ≡ worstFrom 16 rest
-    others = level ∙ worst-rest rest
+  set-all : setOf all ≡ cond stray 1 0 + setOf (replicate 1 false ++ fifteen) + setOf (replicate 16 false ++ rest)
+  unfolding setOf
+  set-all = let e : setOf (fifteen ++ rest) ≡ setOf fifteen + 32768 * setOf rest = set-after fifteen rest ∙ rw long in omega (arith, e)
 
-    pub gathered : (l h v w : ℕ) → l ≡ low → h ≡ high → v ≡ cond (joined b1 fourteen) 3 (o .level) → w ≡ cond b0 4 v
-        → Gathered whole b0 (record { set = l + 256 * h + 65536 * (o .set / 65536); level = w; rejects = joined b1 fourteen || eqb (o .level) 3; stray = b0 })
-    gathered l h v w el eh ev ew =
-        let tr = joined-some b1 fourteen in
+  set-rest : setOf (replicate 16 false ++ rest) ≡ 65536 * setOf rest
+  unfolding setOf
+  set-rest = omega arith
+
+  -- as the code has them: w and o are what is known of 1 to 15 and of the others
+  module _ (w o : Found)
+      (w-set : w .set ≡ setOf (replicate 1 false ++ fifteen)) (w-level : w .level ≡ worst (replicate 1 false ++ fifteen))
+      (o-set : o .set ≡ setOf (replicate 16 false ++ rest)) (o-level : o .level ≡ worst (replicate 16 false ++ rest)) where
+    works-worst : w .level ≡ worstFrom 1 fifteen
+    unfolding worst
+    works-worst = w-level ∙ worst-late 0 1 fifteen
+
+    own-worst : o .level ≡ worstFrom 16 rest
+    unfolding worst
+    own-worst = o-level ∙ worst-late 0 16 rest
+
+    pub gathered : (b l v : ℕ) → b ≡ cond stray 1 0 → l ≡ larger (w .level) (o .level) → v ≡ cond stray 4 l
+        → Gathered all stray (record {
+          set = b + w .set + 65536 * (o .set / 65536);
+          level = v;
+          rejects = eqb (w .level) 3 || eqb (o .level) 3;
+          stray = stray;
+        })
+    gathered b l v eb el ev =
         record {
-          set = omega (arith, set-first, set-rest rest);
-          level = ew ∙ ap (cond b0 4) (ev ∙ rw (tr, others)) ∙ sym worst-first;
-          rejects = rw (tr, others) (sym rejects-first);
+          set = omega (arith, set-all, set-rest);
+          level = ev ∙ ap (cond stray 4) (el ∙ rw (works-worst, own-worst)) ∙ sym worst-all;
+          rejects = rw (works-worst, own-worst) (sym rejects-all);
           stray = refl;
         }

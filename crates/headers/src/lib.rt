@@ -5,8 +5,8 @@ use tally::marks::Marks;
 ghost use mathlib.Core.Path.{_≡_};
 ghost use mathlib.Core.Bool.{Bool, false};
 ghost use mathlib.Core.List.{List, [], _∷_, _++_};
-ghost use Prim.Native.Nat.{_^_, _<_, _≤_};
-ghost use lib.ListN.{replicate};
+ghost use Prim.Native.Nat.{_^_, _≤_};
+ghost use lib.ListN.{length, replicate};
 ghost use Rattle.format.specs.Bytes.{Bytes};
 ghost use Rattle.rules.specs.Tables.{Tables};
 ghost use Rattle.rules.specs.Values.{largestTolerance};
@@ -35,9 +35,6 @@ pub struct Head {
     pub rejects: bool,
     pub stray: bool,
 }
-
-// The verdict that only finding 0 has.
-pub const GR: u8 = 4;
 
 // The header's type is not the one that GRH names.
 fn found_0(header: &[u8], named: &[u8]) -> bool
@@ -107,54 +104,22 @@ fn found_15(marks: Marks) -> bool
     marks.ewts | marks.vers
 }
 
-// Eight findings in a row as a number.
-fn octet(b0: bool, b1: bool, b2: bool, b3: bool, b4: bool, b5: bool, b6: bool, b7: bool) -> u64
-    ensures { λ r. ⌜ r ≡ setOf (b0 ∷ b1 ∷ b2 ∷ b3 ∷ b4 ∷ b5 ∷ b6 ∷ b7 ∷ []) ⌝ }
-    ensures { λ r. ⌜ r < 256 ⌝ }
+// Finding 0, which alone rejects the group, then 1 to 15, which reject the transaction, then the header's own. Those begin at 16 and are
+// taken from there on, so that no sum wraps whatever they are.
+fn join(stray: bool, works: Found, own: Found) -> Head
+    requires { ⌜ works .set ≤ 65534 ⌝ }
+    ensures { λ h. ⌜ ((fifteen rest : List Bool) → length fifteen ≡ 15
+        → works .set ≡ setOf (replicate 1 false ++ fifteen) → works .level ≡ worst (replicate 1 false ++ fifteen)
+        → own .set ≡ setOf (replicate 16 false ++ rest) → own .level ≡ worst (replicate 16 false ++ rest)
+        → Gathered (stray ∷ fifteen ++ rest) stray h) ⌝ }
 {
-    findings::weigh(b0, 1)
-        + findings::weigh(b1, 2)
-        + findings::weigh(b2, 4)
-        + findings::weigh(b3, 8)
-        + findings::weigh(b4, 16)
-        + findings::weigh(b5, 32)
-        + findings::weigh(b6, 64)
-        + findings::weigh(b7, 128)
-}
-
-// Findings 0 to 15 before the header's own. Finding 0 alone rejects the group, the other fifteen the transaction. The header's own begin
-// at 16 and are taken from there on, so that no sum wraps whatever they are.
-fn gather(
-    b0: bool,
-    b1: bool,
-    b2: bool,
-    b3: bool,
-    b4: bool,
-    b5: bool,
-    b6: bool,
-    b7: bool,
-    b8: bool,
-    b9: bool,
-    b10: bool,
-    b11: bool,
-    b12: bool,
-    b13: bool,
-    b14: bool,
-    b15: bool,
-    own: Found,
-) -> Head
-    ensures { λ h. ⌜ ((rest : List Bool) → own .set ≡ setOf (replicate 16 false ++ rest) → own .level ≡ worst (replicate 16 false ++ rest) → Gathered (b0 ∷ b1 ∷ b2 ∷ b3 ∷ b4 ∷ b5 ∷ b6 ∷ b7 ∷ b8 ∷ b9 ∷ b10 ∷ b11 ∷ b12 ∷ b13 ∷ b14 ∷ b15 ∷ rest) b0 h) ⌝ }
-{
-    let low = octet(b0, b1, b2, b3, b4, b5, b6, b7);
-    let high = octet(b8, b9, b10, b11, b12, b13, b14, b15);
-    let set = low + 256 * high + 65536 * (own.set / 65536);
-    let tr = b1 | b2 | b3 | b4 | b5 | b6 | b7 | b8 | b9 | b10 | b11 | b12 | b13 | b14 | b15;
-    let level = edits::pick(b0, GR, edits::pick(tr, edits::TR, own.level));
+    let set = findings::bit(stray) + works.set + 65536 * (own.set / 65536);
+    let level = findings::larger(works.level, own.level);
     Head {
         set: set,
-        level: level,
-        rejects: tr | (own.level == edits::TR),
-        stray: b0,
+        level: edits::pick(stray, findings::GR, level),
+        rejects: (works.level == findings::TR) | (own.level == findings::TR),
+        stray: stray,
     }
 }
 
@@ -169,23 +134,26 @@ pub fn judge(header: &[u8], named: &[u8], own: Found, y: Tally, links: Links, t:
     let totals = y.totals;
     let order = y.order;
     let marks = y.marks;
-    gather(
-        found_0(header, named),
-        totals.found_1(t),
-        totals.found_2(t),
-        totals.found_3(t),
-        found_4(marks),
-        found_5(marks),
-        found_6(header, marks),
-        found_7(header, marks),
-        order.found_8(),
-        found_9(header, marks),
-        found_10(header, marks),
-        links.many,
-        links.shareless,
-        links.joined,
-        links.kept,
-        found_15(marks),
-        own,
-    )
+    let stray = found_0(header, named);
+    let works = edits::gather(
+        1,
+        &[
+            totals.found_1(t),
+            totals.found_2(t),
+            totals.found_3(t),
+            found_4(marks),
+            found_5(marks),
+            found_6(header, marks),
+            found_7(header, marks),
+            order.found_8(),
+            found_9(header, marks),
+            found_10(header, marks),
+            links.many,
+            links.shareless,
+            links.joined,
+            links.kept,
+            found_15(marks),
+        ],
+    );
+    join(stray, works, own)
 }

@@ -5,7 +5,7 @@ use buffers::settle;
 use chains::Met;
 use details::Publisher;
 use details::Step;
-use edits::TR;
+use findings::TR;
 use headers::Links;
 use kinds::DETAIL;
 use kinds::PUBLISHER;

@@ -26,7 +26,7 @@ loop-less c = simp length-set (omega arith)
 loop-again : tie.Need-loop-again Inv-loop μ-loop
 loop-again c =
     let l = c .before .before .before .loop in
-    (simp length-set (l .inv .0), raise-on _ (l .i) (l .part) _ (l .inv .1) _ (c .before .before .loop-test .taken) (c .larger-of .ensures))
+    (simp length-set (l .inv .0), raise-on _ (l .i) (l .part) _ (l .inv .1) _ (c .before .before .loop-test .taken) (c .larger .ensures))
 
 returns : tie.Need-returns Inv-loop μ-loop
 returns c = let l = c .before .loop in raise-end _ (l .i) (l .part) _ (l .inv .1) (c .loop-test .left)

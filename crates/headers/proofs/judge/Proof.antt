@@ -1,17 +1,21 @@
 -- `headers::judge` meets its contract: each finding by its function. Assumes nothing.
-use mathlib.Core.Path.{ap, _∙_}
-use mathlib.Core.List.{[]}
+use mathlib.Core.Path.{refl, ap, _∙_}
+use mathlib.Core.List.{[], _∷_}
 use Rattle.rules.specs.Findings.{fieldFindings, setOf, worst}
 use Rattle.rules.specs.Works.{headerFindings}
-use Rattle.headers.proofs.Laws.{own-late}
+use Rattle.headers.proofs.Laws.{own-late, room}
 use borrow.Author.Needs.{needs}
 use Rattle.headers.proofs.judge.Statement.{statement}
 use Rattle.headers.proofs.judge.Tie as tie
 
+join-requires : tie.Need-join-requires
+join-requires c κs = rw (c .gather .ensures .0) (room _ refl)
+
 returns : tie.Need-returns
 unfolding headerFindings
 returns c tables ds k l j =
-    let at15 = c .before in
+    let gathered = c .before in
+    let at15 = gathered .before .before in
     let at10 = at15 .before in
     let at9 = at10 .before in
     let at8 = at9 .before in
@@ -25,6 +29,7 @@ returns c tables ds k l j =
     let at0 = at1 .before in
     let h = at0 .before .before .before .before .before .before .args .header .now in
     let own = own-late tables [] h in
+    let links = at0 .before .before .before .before .before .before .args .links in
     rw (
       ← at0 .found-0 .ensures,
       ← at1 .found-1 .ensures ds (k .totals),
@@ -43,7 +48,31 @@ returns c tables ds k l j =
       ← l .kept,
       ← at15 .found-15 .ensures ds (k .marks),
     )
-    (c .gather .ensures (fieldFindings tables [] h) (j .set ∙ ap setOf own) (j .level ∙ ap worst own))
+    (c .join .ensures
+    (
+    at1 .found-1 .result
+    ∷ at2 .found-2 .result
+    ∷ at3 .found-3 .result
+    ∷ at4 .found-4 .result
+    ∷ at5 .found-5 .result
+    ∷ at6 .found-6 .result
+    ∷ at7 .found-7 .result
+    ∷ at8 .found-8 .result
+    ∷ at9 .found-9 .result
+    ∷ at10 .found-10 .result
+    ∷ links .many
+    ∷ links .shareless
+    ∷ links .joined
+    ∷ links .kept
+    ∷ at15 .found-15 .result
+    ∷ []
+    )
+    (fieldFindings tables [] h)
+    refl
+    (gathered .gather .ensures .0)
+    (gathered .gather .ensures .1)
+    (j .set ∙ ap setOf own)
+    (j .level ∙ ap worst own))
 
 pub judge-spec : {M : Type 1} → statement M
 judge-spec =
@@ -51,4 +80,4 @@ judge-spec =
     (tie.spec
     (λ c κs. search needs) (λ c κs. search needs) (λ c κs. search needs) (λ c κs. search needs) (λ c κs. search needs)
     (λ c κs. search needs) (λ c κs. search needs) (λ c κs. search needs) (λ c κs. search needs) (λ c κs. search needs)
-    (λ c κs. search needs) (λ c κs. search needs) (λ c κs. search needs) returns)
+    (λ c κs. search needs) (λ c κs. search needs) (λ c. search needs) (λ c κs. search needs) join-requires returns)

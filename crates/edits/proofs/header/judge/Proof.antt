@@ -8,7 +8,7 @@ use Rattle.edits.proofs.header.judge.Tie as tie
 
 returns : tie.Need-returns
 returns c tables el ec before =
-    let at23 = c .before in
+    let at23 = c .before .before in
     let at22 = at23 .before in
     let at21 = at22 .before in
     let at20 = at21 .before in
@@ -48,4 +48,4 @@ judge-spec =
     tie.close
     (tie.spec
     (λ c κs. search needs) (λ c κs. search needs) (λ c κs. search needs) (λ c κs. search needs) (λ c κs. search needs)
-    (λ c κs. search needs) (λ c κs. search needs) (λ c κs. search needs) (λ c κs. search needs) returns)
+    (λ c κs. search needs) (λ c κs. search needs) (λ c κs. search needs) (λ c. search needs) (λ c κs. search needs) returns)

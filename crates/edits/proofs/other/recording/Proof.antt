@@ -7,7 +7,7 @@ use Rattle.edits.proofs.other.recording.Tie as tie
 
 returns : tie.Need-returns
 returns c tables before =
-    let at44 = c .before in
+    let at44 = c .before .before in
     let at46 = at44 .before in
     let at45 = at46 .before in
     let s = at45 .before .before in
@@ -18,4 +18,4 @@ returns c tables before =
 
 pub recording-spec : {M : Type 1} → statement M
 recording-spec =
-    tie.close (tie.spec (λ c κs. search needs) (λ c κs. search needs) (λ c κs. search needs) (λ c κs. search needs) returns)
+    tie.close (tie.spec (λ c κs. search needs) (λ c κs. search needs) (λ c κs. search needs) (λ c. search needs) (λ c κs. search needs) returns)

@@ -8,7 +8,7 @@ use Rattle.edits.proofs.publisher.judge.Tie as tie
 
 returns : tie.Need-returns
 returns c tables es before el ek =
-    let at37 = c .before in
+    let at37 = c .before .before in
     let at36 = at37 .before in
     let at35 = at36 .before in
     let at34 = at35 .before in
@@ -65,4 +65,4 @@ judge-spec =
     (λ c κs. search needs) (λ c κs. search needs) (λ c κs. search needs) (λ c κs. search needs) (λ c κs. search needs)
     (λ c κs. search needs) (λ c κs. search needs) (λ c κs. search needs) (λ c κs. search needs) (λ c κs. search needs)
     (λ c κs. search needs) (λ c κs. search needs) (λ c κs. search needs) (λ c κs. search needs) (λ c κs. search needs)
-    (λ c κs. search needs) returns)
+    (λ c. search needs) (λ c κs. search needs) returns)

@@ -8,7 +8,7 @@ use Rattle.edits.proofs.writer.judge.Tie as tie
 
 returns : tie.Need-returns
 returns c tables before =
-    let at42 = c .before in
+    let at42 = c .before .before in
     let at41 = at42 .before in
     let at40 = at41 .before in
     let at39 = at40 .before in
@@ -39,4 +39,4 @@ judge-spec =
     tie.close
     (tie.spec
     (λ c κs. search needs) (λ c κs. search needs) (λ c κs. search needs) (λ c κs. search needs) (λ c κs. search needs)
-    (λ c κs. search needs) (λ c κs. search needs) returns)
+    (λ c κs. search needs) (λ c. search needs) (λ c κs. search needs) returns)
