@@ -1,33 +1,40 @@
-/* The stack of a call: it is made in a thread whose stack was filled with one byte before, and what it wrote there is counted. */
+/* The stack of a call: what is below it on a thread's stack is filled with one byte, and what the call wrote there is counted. */
 #include "stack.h"
 
 #include "files.h"
 
-enum { ROOM = 1 << 20, FILLED = 0x55 };
+/* NEAR: left alone below the frame from which the stack is filled, for that filling itself. */
+enum { ROOM = 1 << 20, NEAR = 512, FILLED = 0x55 };
 
-static void *nothing(void *lent) {
-    return lent;
+struct watched {
+    void *(*call)(void *);
+    void *lent;
+    uint8_t *stack;
+    size_t taken;
+};
+
+/* A stack grows down, so what is left of it stands at its front. */
+static void *watch(void *lent) {
+    struct watched *w = lent;
+    uint8_t here;
+    size_t below = (size_t)(&here - w->stack), left = 0;
+    memset(w->stack, FILLED, below - NEAR);
+    w->call(w->lent);
+    while (left < below - NEAR && w->stack[left] == FILLED)
+        left++;
+    w->taken = below - left;
+    return NULL;
 }
 
-/* A stack grows down, so what is left stands at the front. */
-static size_t taken(void *(*call)(void *), void *lent) {
+size_t stack_of(void *(*call)(void *), void *lent) {
+    struct watched w = {call, lent, malloc(ROOM), 0};
     struct thread_kind kind;
     unsigned long thread;
-    size_t left = 0;
-    uint8_t *stack = malloc(ROOM);
-    if (!stack)
+    if (!w.stack)
         stop("stack", "no memory");
-    memset(stack, FILLED, ROOM);
-    if (pthread_attr_init(&kind) != 0 || pthread_attr_setstack(&kind, stack, ROOM) != 0 ||
-        pthread_create(&thread, &kind, call, lent) != 0 || pthread_join(thread, NULL) != 0)
+    if (pthread_attr_init(&kind) != 0 || pthread_attr_setstack(&kind, w.stack, ROOM) != 0 ||
+        pthread_create(&thread, &kind, watch, &w) != 0 || pthread_join(thread, NULL) != 0)
         stop("stack", "no thread");
-    while (left < ROOM && stack[left] == FILLED)
-        left++;
-    free(stack);
-    return ROOM - left;
-}
-
-/* A thread that does nothing has some on its stack too. */
-size_t stack_of(void *(*call)(void *), void *lent) {
-    return taken(call, lent) - taken(nothing, NULL);
+    free(w.stack);
+    return w.taken;
 }
