@@ -40,17 +40,17 @@ three (row u n c) = eqb (length u) 3
 type-kept : (u : Bytes) → length u ≡ 3 → (n : ℕ) (c : Class) → typeOf (codeRow (row u n c)) ≡ u
 type-kept u h n c = first-three u (omega arith) ∙ take-all 3 u (omega arith)
 
-first-is : (fs : List FormatRow) → every three fs ≡ true → (t : Bytes) → firstOf (map codeRow fs) t ≡ codeRow (rowOf fs t)
+first-is : (fs : List FormatRow) → every three fs ≡ true → (type : Bytes) → firstOf (map codeRow fs) type ≡ codeRow (rowOf fs type)
 unfolding three
-first-is [] q t = sym code-unknown
-first-is (row u n c ∷ fs) q t =
+first-is [] q type = sym code-unknown
+first-is (row u n c ∷ fs) q type =
     let p = both (eqb (length u) 3) (every three fs) q in
-    ap (λ (v : Bytes). cond (sameBytes v t) (codeRow (row u n c)) (firstOf (map codeRow fs) t)) (type-kept u (eqb-true (length u) 3 (p .0)) n c)
-    ∙ by-cases (sameBytes u t) (λ e. rw e) (λ e. rw e (first-is fs (p .1) t))
+    ap (λ (v : Bytes). cond (sameBytes v type) (codeRow (row u n c)) (firstOf (map codeRow fs) type)) (type-kept u (eqb-true (length u) 3 (p .0)) n c)
+    ∙ by-cases (sameBytes u type) (λ e. rw e) (λ e. rw e (first-is fs (p .1) type))
 
-first-row : (t : Bytes) → firstOf kinds t ≡ rowFor t
+first-row : (type : Bytes) → firstOf kinds type ≡ rowFor type
 unfolding kinds rowFor rows22 three
-first-row t = first-is rows22 refl t
+first-row type = first-is rows22 refl type
 
 distinct-kinds : distinct kinds ≡ true
 unfolding kinds rows22 spots begins stages sortOf has distinct
@@ -58,12 +58,12 @@ distinct-kinds = refl
 
 -- ---- the code's table, searched or hinted at
 
-module _ (l : List Row) (table : l ≡ kinds) (t : Bytes) where
-  pub searched : firstOf l t ≡ rowFor t
-  searched = ap (λ (k : List Row). firstOf k t) table ∙ first-row t
+module _ (l : List Row) (table : l ≡ kinds) (type : Bytes) where
+  pub searched : firstOf l type ≡ rowFor type
+  searched = ap (λ (k : List Row). firstOf k type) table ∙ first-row type
 
-  pub hinted : (k : ℕ) → k < length l → (d : Row) → sameBytes (typeOf (getD l k d)) t ≡ true → getD l k d ≡ rowFor t
-  hinted k inside d e = only t d l (ap distinct table ∙ distinct-kinds) k inside e ∙ searched
+  pub hinted : (k : ℕ) → k < length l → (d : Row) → sameBytes (typeOf (getD l k d)) type ≡ true → getD l k d ≡ rowFor type
+  hinted k inside d e = only type d l (ap distinct table ∙ distinct-kinds) k inside e ∙ searched
 
 pub short-row : (r : Bytes) → length r < 3 → noRow ≡ rowFor (take 3 r)
 short-row r h = sym (short kinds (take 3 r) (rw length-take (omega arith))) ∙ first-row (take 3 r)
@@ -71,10 +71,10 @@ short-row r h = sym (short kinds (take 3 r) (rw length-take (omega arith))) ∙ 
 -- ---- place and length
 
 code-place : (f : FormatRow) → codeRow f .place ≡ code (classOf f)
-code-place (row t n c) = refl
+code-place (row type n c) = refl
 
 code-length : (f : FormatRow) → codeRow f .length ≡ lenOf f
-code-length (row t n c) = refl
+code-length (row type n c) = refl
 
 pub place-class : (r : Bytes) → rowFor (take 3 r) .place ≡ code (cls cwr22 r)
 unfolding rowFor rows22
@@ -88,20 +88,20 @@ length-len r = code-length (rowOf rows22 (take 3 r))
 
 -- the columns hold all spots of a type: it has at most three, of one rank
 fits : FormatRow → Bool
-fits (row t n c) = sameSpots (spotsOf (codeRow (row t n c))) (spots t)
+fits (row type n c) = sameSpots (spotsOf (codeRow (row type n c))) (spots type)
 
 all-fit : every fits rows22 ≡ true
 unfolding rows22 fits sameSpots spots begins stages sortOf
 all-fit = refl
 
 -- the row found for t is that of no type, or is of the type t and passes each test that all rows pass
-module _ (C : FormatRow → Type 0) (p : FormatRow → Bool) (t : Bytes) (found : (n : ℕ) (c : Class) → p (row t n c) ≡ true → C (row t n c)) where
-  pub row-cases : (fs : List FormatRow) → every p fs ≡ true → (rowOf fs t ≡ noType → C (noType)) → C (rowOf fs t)
+module _ (C : FormatRow → Type 0) (p : FormatRow → Bool) (type : Bytes) (found : (n : ℕ) (c : Class) → p (row type n c) ≡ true → C (row type n c)) where
+  pub row-cases : (fs : List FormatRow) → every p fs ≡ true → (rowOf fs type ≡ noType → C (noType)) → C (rowOf fs type)
   row-cases [] q none = none refl
   row-cases (row u n c ∷ fs) q none =
       let pq = both (p (row u n c)) (every p fs) q in
-      by-cases (sameBytes u t)
-      (λ e. rw (e, same→eq u t e) (found n c (rw (same→eq u t e) at (pq .0))))
+      by-cases (sameBytes u type)
+      (λ e. rw (e, same→eq u type e) (found n c (rw (same→eq u type e) at (pq .0))))
       (λ e. rw e (row-cases fs (pq .1) (rw e at none)))
 
 -- ---- what all rows of a class have in common
@@ -136,40 +136,40 @@ of-class k p all named C r h found =
 
 -- each type of the stages is in the table, so a type that is not has no spot
 listed : Bytes → Bool
-listed t = known (classOf (rowOf rows22 t))
+listed type = known (classOf (rowOf rows22 type))
 
 stages-listed : every (typesPass listed) stages ≡ true
 unfolding stages typesPass listed rows22
 stages-listed = refl
 
-module _ (t : Bytes) (none : rowOf rows22 t ≡ noType) where
-  unlisted : listed t ≡ false
+module _ (type : Bytes) (none : rowOf rows22 type ≡ noType) where
+  unlisted : listed type ≡ false
   unfolding listed
   unlisted = ap (λ (f : FormatRow). known (classOf f)) none
 
-  unlisted-spots : spots t ≡ []
+  unlisted-spots : spots type ≡ []
   unfolding spots
-  unlisted-spots = no-spots listed t unlisted 1 stages stages-listed
+  unlisted-spots = no-spots listed type unlisted 1 stages stages-listed
 
-  unlisted-begins : begins t ≡ false
+  unlisted-begins : begins type ≡ false
   unfolding begins
-  unlisted-begins = begins-none listed t unlisted stages stages-listed
+  unlisted-begins = begins-none listed type unlisted stages stages-listed
 
-pub stage-spots : (t : Bytes) → spotsOf (rowFor t) ≡ spots t
+pub stage-spots : (type : Bytes) → spotsOf (rowFor type) ≡ spots type
 unfolding rowFor fits
-stage-spots t =
-    row-cases (λ (f : FormatRow). spotsOf (codeRow f) ≡ spots t) fits t
-    (λ n c e. sameSpots→eq (spotsOf (codeRow (row t n c))) (spots t) e)
+stage-spots type =
+    row-cases (λ (f : FormatRow). spotsOf (codeRow f) ≡ spots type) fits type
+    (λ n c e. sameSpots→eq (spotsOf (codeRow (row type n c))) (spots type) e)
     rows22 all-fit
-    (λ none. ap spotsOf code-unknown ∙ sym (unlisted-spots t none))
+    (λ none. ap spotsOf code-unknown ∙ sym (unlisted-spots type none))
 
-pub alone-begins : (t : Bytes) → rowFor t .alone ≡ begins t
+pub alone-begins : (type : Bytes) → rowFor type .alone ≡ begins type
 unfolding rowFor
-alone-begins t =
-    row-cases (λ (f : FormatRow). codeRow f .alone ≡ begins t) fits t
+alone-begins type =
+    row-cases (λ (f : FormatRow). codeRow f .alone ≡ begins type) fits type
     (λ n c e. refl)
     rows22 all-fit
-    (λ none. ap (λ (r : Row). r .alone) code-unknown ∙ sym (unlisted-begins t none))
+    (λ none. ap (λ (r : Row). r .alone) code-unknown ∙ sym (unlisted-begins type none))
 
 -- ---- sorts
 
@@ -177,31 +177,31 @@ sorts-listed : every (every listed) sorts ≡ true
 unfolding listed rows22
 sorts-listed = refl
 
-pub sort-is : (t : Bytes) → rowFor t .sort ≡ sortOf t
+pub sort-is : (type : Bytes) → rowFor type .sort ≡ sortOf type
 unfolding rowFor sortOf
-sort-is t =
-    row-cases (λ (f : FormatRow). codeRow f .sort ≡ sortOf t) fits t
+sort-is type =
+    row-cases (λ (f : FormatRow). codeRow f .sort ≡ sortOf type) fits type
     (λ n c e. refl)
     rows22 all-fit
-    (λ none. ap (λ (r : Row). r .sort) code-unknown ∙ sym (no-sort-of listed t (unlisted t none) 1 sorts sorts-listed))
+    (λ none. ap (λ (r : Row). r .sort) code-unknown ∙ sym (no-sort-of listed type (unlisted type none) 1 sorts sorts-listed))
 
 -- the list of a sort holds the type, and no list holds a type of none
-module _ (t : Bytes) where
-  none-below : (m k : ℕ) (ls : List (List Bytes)) → sortFrom m t ls ≡ k → k < m → k ≡ 0
+module _ (type : Bytes) where
+  none-below : (m k : ℕ) (ls : List (List Bytes)) → sortFrom m type ls ≡ k → k < m → k ≡ 0
   none-below m k [] e h = sym e
-  none-below m k (l ∷ ls) e h = by-cases (among t l) (λ q. absurd (omega (arith, rw q at e))) (λ q. none-below (suc m) k ls (rw q at e) (omega arith))
+  none-below m k (l ∷ ls) e h = by-cases (among type l) (λ q. absurd (omega (arith, rw q at e))) (λ q. none-below (suc m) k ls (rw q at e) (omega arith))
 
-  in-list : (n k : ℕ) (ls : List (List Bytes)) → sortFrom (suc n) t ls ≡ suc (n + k) → among t (getD ls k []) ≡ true
+  in-list : (n k : ℕ) (ls : List (List Bytes)) → sortFrom (suc n) type ls ≡ suc (n + k) → among type (getD ls k []) ≡ true
   in-list n k [] e = absurd (omega arith)
   in-list n zero (l ∷ ls) e =
-      by-cases (among t l) (λ q. q) (λ q. absurd (omega (arith, none-below (suc (suc n)) (suc (n + 0)) ls (rw q at e) (omega arith))))
+      by-cases (among type l) (λ q. q) (λ q. absurd (omega (arith, none-below (suc (suc n)) (suc (n + 0)) ls (rw q at e) (omega arith))))
   in-list n (suc k) (l ∷ ls) e =
-      by-cases (among t l) (λ q. absurd (omega (arith, rw q at e))) (λ q. in-list (suc n) k ls ((rw q at e) ∙ omega arith))
+      by-cases (among type l) (λ q. absurd (omega (arith, rw q at e))) (λ q. in-list (suc n) k ls ((rw q at e) ∙ omega arith))
 
-  module _ (kind : Row) (its : kind ≡ rowFor t) where
-    sort-here : sortFrom 1 t sorts ≡ kind .sort
+  module _ (kind : Row) (its : kind ≡ rowFor type) where
+    sort-here : sortFrom 1 type sorts ≡ kind .sort
     unfolding sortOf
-    sort-here = sym (sort-is t) ∙ sym (ap (λ (r : Row). r .sort) its)
+    sort-here = sym (sort-is type) ∙ sym (ap (λ (r : Row). r .sort) its)
 
-    pub of-sort : (k : ℕ) → kind .sort ≡ suc k → among t (getD sorts k []) ≡ true
+    pub of-sort : (k : ℕ) → kind .sort ≡ suc k → among type (getD sorts k []) ≡ true
     of-sort k e = in-list 0 k sorts (sort-here ∙ e ∙ omega arith)
