@@ -6,8 +6,8 @@ use Prim.Native.Nat.{ℕ, suc, _+_, _-_, _*_, _<_, _≤_}
 use native.Mathlib.Omega.{arith}
 use lib.ListN.{length, take, drop, set, length-append}
 use borrow.Rule.Slice.PartMut.{putMid}
-use Rattle.format.specs.Bytes.{Bytes}
-use Rattle.rules.specs.Findings.{setOf, bytesOf}
+use Rattle.format.specs.Bytes.{Bytes, bytesOf}
+use Rattle.rules.specs.Findings.{setOf}
 use Rattle.rules.specs.Verdicts.{findingBytes}
 use Rattle.rules.proofs.Joined.{findings-one, findings-append, length-findings}
 use Rattle.format.specs.Lent.{splice}

@@ -1,6 +1,6 @@
 // What a check writes into the two buffers that it was lent: for each record one verdict byte, and the eight bytes of its findings.
 ghost use mathlib.Core.Path.{_≡_};
-ghost use mathlib.Core.Bool.{Bool};
+ghost use mathlib.Core.Bool.{Bool, cond};
 ghost use mathlib.Core.List.{List, [], _∷_};
 ghost use Prim.Native.Nat.{_+_, _*_, _<_, _≤_};
 ghost use lib.ListN.{length};
@@ -18,7 +18,14 @@ pub fn settle(index: usize, set: u64, verdict: u8, verdicts: &mut [u8], findings
     verdicts[index] = verdict;
     let end = 8 * (index + 1);
     let start = end - 8;
-    findings::put(set, &mut findings[start..end]);
+    text::store_eight(set, &mut findings[start..end]);
+}
+
+// Below which no verdict of a transaction or a group stays: that verdict, where some record's finding gives it to all of them.
+pub fn least(raises: bool, verdict: u8) -> u8
+    ensures { λ r. ⌜ r ≡ cond raises verdict 0 ⌝ }
+{
+    if raises { verdict } else { 0 }
 }
 
 // Leaves no verdict below `least` in this part.

@@ -18,6 +18,10 @@ use Rattle.rules.specs.Chains.{anyBelow, anyChain, manyE, joinedByOPU, aqAfterP
 use Rattle.rules.specs.Chains.{is11, is12, is13, is14}
 use Rattle.rules.proofs.Lists.{any-last, count-last, sum-only-last, only-fewer, sum-most}
 use Rattle.rules.proofs.Fields.{all-shares-most}
+use Rattle.edits.specs.Readings.{PublisherReads}
+use Rattle.edits.specs.declared.publisher.Publisher.{Publisher}
+use Rattle.edits.specs.declared.publisher.Sequence.{Sequence}
+use Rattle.edits.proofs.Sequences.{isNumber, number-here, none-here}
 use Rattle.chains.specs.Tallies.{begunBy, ownShares, TallyOf, Chains, Tallied, Small}
 use Rattle.chains.proofs.Growth.{chain-kept, chain-left, elsewhere, same-or-not, below-left, flag-more, many-more, joined-more, paid-more, begun-more}
 
@@ -47,11 +51,22 @@ has-share zero zero c = let e : 0 + 0 + c ≡ c = omega arith in rw e
 publisher-in : (k : ℕ) (r : Bytes) → inChain k r ≡ true → isPublisher r ≡ true
 publisher-in k r e = and-eq-true-iff _ _ .0 (and-eq-true-iff (isPublisher r && areDigits (sequenceNumber r)) _ .0 e .0) .0
 
-pub in-chain : (k : ℕ) (r : Bytes) → isPublisher r ≡ true → areDigits (sequenceNumber r) ≡ true → numberOf (sequenceNumber r) ≡ k
+in-chain : (k : ℕ) (r : Bytes) → isPublisher r ≡ true → areDigits (sequenceNumber r) ≡ true → numberOf (sequenceNumber r) ≡ k
     → inChain k r ≡ true
 in-chain k r p d n = rw (p, d) (eq-eqb (numberOf (sequenceNumber r)) k n)
 
--- as `join` writes it
+-- a record as it was read: in the chain of its number, or in none
+module _ (p : Publisher) (r : Bytes) (reads : PublisherReads p r) where
+  pub chained : (k : ℕ) → p .sequence ≡ Sequence.Number k → inChain k r ≡ true
+  chained k e = let (d, n) = number-here r k (sym (reads .sequence) ∙ e) in in-chain k r (reads .kind .1) d n
+
+  pub unchained : isNumber (p .sequence) ≡ false → areDigits (sequenceNumber r) ≡ false
+  unchained e = none-here r (ap isNumber (sym (reads .sequence)) ∙ e)
+
+  pub summed : allShares r ≡ p .shares .pr + p .shares .mr + p .shares .sr
+  summed = rw (reads .shares)
+
+-- as `join_chain` writes it
 abbrev pub joinedBy : Chains → ℕ → Bool → Bool → Bool → ℕ → Chains
 joinedBy c k spu e aq shares =
     record {

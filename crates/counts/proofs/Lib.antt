@@ -1,4 +1,4 @@
 -- The laws that the proofs cite.
-pub mod Places
+pub mod Classes
 pub mod Laws
 pub mod Words

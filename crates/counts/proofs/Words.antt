@@ -38,7 +38,7 @@ pub picked : (first : Bool) (a b m n : ℕ) → a ≡ wordOf (decimal 8 m) → b
 picked true a b m n e f = e
 picked false a b m n e f = f
 
--- at a known place it is known which count grows
+-- of a known class it is known which count grows
 pub grown-at : (x p k a b : ℕ) → p ≡ k → x ≡ wordOf (decimal 8 (cond (eqb p 2) a b + 1)) → x ≡ wordOf (decimal 8 (cond (eqb k 2) a b + 1))
 grown-at x p k a b e f = f ∙ ap (λ (q : ℕ). wordOf (decimal 8 (cond (eqb q 2) a b + 1))) e
 

@@ -3,10 +3,9 @@ use Prim.Native.Nat.{ℕ, _+_, _-_}
 use mathlib.Core.Path.{_≡_}
 use mathlib.Core.List.{[], _++_}
 use lib.ListN.{length, take, drop}
-use Rattle.format.specs.Bytes.{Bytes, decimal}
+use Rattle.format.specs.Bytes.{Bytes, decimal, bytesOf}
 use Rattle.format.specs.Table.{Class, at, width}
 use Rattle.format.specs.Checks.{Counts, expected}
-use Rattle.text.specs.Words.{bytesOf}
 use Rattle.counts.specs.declared.Numbers.{Numbers}
 use Rattle.counts.specs.declared.Numbers.the-variants.{Nothing, Group, Prefix, Closing, Totals}
 
@@ -42,7 +41,7 @@ sizeOf (Totals g m r) = 5 + (8 + 8)
 -- they are what the format expects of a record of the class, and stand where it has them
 pub record Carried (n : Counts) (c : Class) (r : Numbers) : Type 0 where
   pub right : digitsOf r ≡ expected n c
-  pub place : startOf r - 1 ≡ at c
+  pub start : startOf r - 1 ≡ at c
   pub wide : sizeOf r ≡ width c
 
 -- s with x over it from a start, counted from 1

@@ -9,12 +9,12 @@ ghost use mathlib.Core.List.{_++_};
 ghost use mathlib.Core.Bool.{cond};
 ghost use Prim.Native.Nat.{_+_, _-_, _≤_};
 ghost use lib.ListN.{length, take, drop};
-ghost use Rattle.format.specs.Bytes.{sameBytes, decimal};
+ghost use Rattle.format.specs.Bytes.{sameBytes, decimal, bytesOf};
 ghost use Rattle.format.specs.Fields.{fieldOf};
 ghost use Rattle.format.specs.Table.{at, width};
 ghost use Rattle.format.specs.Checks.{noneCounted, count, classAt, slot, expected};
-ghost use Rattle.text.specs.Words.{wordOf, bytesOf};
-ghost use Rattle.counts.specs.Tally.{tally, Written, Kept, CanGrow};
+ghost use Rattle.text.specs.Words.{wordOf};
+ghost use Rattle.counts.specs.Counting.{countsIn, Written, Kept, CanGrow};
 ghost use Rattle.counts.specs.Carried.{pair, words, digitsOf, startOf, sizeOf, over, Carried};
 
 // What was counted before a record, as the format's `Counts`.
@@ -60,7 +60,7 @@ pub enum Numbers {
 
 impl Counts {
     pub fn zero() -> Counts
-        ensures { λ r. ⌜ tally r ≡ noneCounted ⌝ }
+        ensures { λ r. ⌜ countsIn r ≡ noneCounted ⌝ }
         ensures { λ r. ⌜ CanGrow r × (r .records ≡ 0) ⌝ }
     {
         Counts {
@@ -77,16 +77,16 @@ impl Counts {
         }
     }
 
-    // With one record more, of that place.
-    pub fn with(mut self, place: u8) -> Counts
+    // With one record more, of that class.
+    pub fn with(mut self, class: u8) -> Counts
         requires { ⌜ CanGrow self ⌝ }
-        ensures { λ r. ⌜ tally r ≡ count (tally self) (classAt place) ⌝ }
+        ensures { λ r. ⌜ countsIn r ≡ count (countsIn self) (classAt class) ⌝ }
         ensures { λ r. ⌜ Kept r × (r .records ≡ self .records + 1) ⌝ }
     {
-        let next = self.grown(place == HEAD);
+        let next = self.grown(class == HEAD);
         let closing = text::next_eight(self.closing_word, self.group_records + 1);
         self.records += 1;
-        match place {
+        match class {
             GRH => {
                 self.groups += 1;
                 self.in_group = 0; // so that each group numbers its transactions anew
@@ -125,18 +125,18 @@ impl Counts {
         requires { ⌜ Written self ⌝ }
         ensures { λ r. ⌜ r ≡ wordOf (decimal 8 (cond head (self .«in_group») (self .«in_transaction») + 1)) ⌝ }
     {
-        let word = pick(head, self.header_word, self.record_word);
-        let count = pick(head, self.in_group, self.in_transaction);
+        let word = either::number(head, self.header_word, self.record_word);
+        let count = either::number(head, self.in_group, self.in_transaction);
         text::next_eight(word, count)
     }
 
-    // The numbers that the next record has to carry, if it is of that place. Transactions are numbered from 0: a header has how many
+    // The numbers that the next record has to carry, if it is of that class. Transactions are numbered from 0: a header has how many
     // began before it, and a detail one less, since its header is counted. GRT and TRL count themselves among the records.
-    pub fn numbers_for(self, place: u8) -> Numbers
+    pub fn numbers_for(self, class: u8) -> Numbers
         requires { ⌜ CanGrow self ⌝ }
-        ensures { λ r. ⌜ Carried (tally self) (classAt place) r ⌝ }
+        ensures { λ r. ⌜ Carried (countsIn self) (classAt class) r ⌝ }
     {
-        match place {
+        match class {
             GRH => Numbers::Group(self.groups + 1),
             HEAD => Numbers::Prefix(self.header_word, ZERO),
             DETAIL => Numbers::Prefix(self.detail_word, self.record_word),
@@ -146,25 +146,39 @@ impl Counts {
         }
     }
 
-    // Whether the next record, of that place, carries its numbers.
-    pub fn holds(self, place: u8, record: &[u8]) -> bool
+    // Whether the next record, of that class, carries its numbers.
+    pub fn holds(self, class: u8, record: &[u8]) -> bool
         requires { ⌜ CanGrow self ⌝ }
-        requires { ⌜ at (classAt place) + width (classAt place) ≤ length (now «record») ⌝ }
-        ensures { λ r. ⌜ r ≡ sameBytes (slot (classAt place) (now («record» .entry))) (expected (tally self) (classAt place)) ⌝ }
+        requires { ⌜ at (classAt class) + width (classAt class) ≤ length (now «record») ⌝ }
+        ensures { λ r. ⌜ r ≡ sameBytes (slot (classAt class) (now («record» .entry))) (expected (countsIn self) (classAt class)) ⌝ }
     {
-        self.numbers_for(place).stand_in(record)
+        self.numbers_for(class).stand_in(record)
     }
 
-    // Writes its numbers into the next record, of that place, which stands in out.
-    pub fn put(self, place: u8, out: &mut [u8])
+    // Writes its numbers into the next record, of that class, which stands in out.
+    pub fn put(self, class: u8, out: &mut [u8])
         requires { ⌜ CanGrow self ⌝ }
-        requires { ⌜ at (classAt place) + width (classAt place) ≤ length (now out) ⌝ }
-        ensures { λ _. ⌜ now (out .exit) ≡ take (at (classAt place)) (now (out .entry)) ++ expected (tally self) (classAt place)
-            ++ drop (at (classAt place) + width (classAt place)) (now (out .entry)) ⌝ }
+        requires { ⌜ at (classAt class) + width (classAt class) ≤ length (now out) ⌝ }
+        ensures { λ _. ⌜ now (out .exit) ≡ take (at (classAt class)) (now (out .entry)) ++ expected (countsIn self) (classAt class)
+            ++ drop (at (classAt class) + width (classAt class)) (now (out .entry)) ⌝ }
     {
-        self.numbers_for(place).write_into(out)
+        self.numbers_for(class).write_into(out)
     }
 }
+
+// Where the numbers of a record stand: each start counted from 1, and how many digits each has. What stands beside a number of eight digits
+// has eight too.
+const OPENED_GROUP: usize = 7;
+
+const PREFIX: usize = 4;
+
+const CLOSED_GROUP: usize = 4;
+
+const CLOSED_COUNTS: usize = 9;
+
+const GROUP_DIGITS: usize = 5;
+
+const DIGITS: usize = 8;
 
 impl Numbers {
     // Whether they stand in the record.
@@ -174,10 +188,16 @@ impl Numbers {
     {
         match self {
             Numbers::Nothing => true,
-            Numbers::Group(g) => stands(g, record, 7, 5),
-            Numbers::Prefix(m, r) => words_stand(m, r, record, 4),
-            Numbers::Closing(g, m, r) => stands(g, record, 4, 5) & words_stand(m, r, record, 9),
-            Numbers::Totals(g, m, r) => stands(g, record, 4, 5) & pair_stands(m, r, record, 9),
+            Numbers::Group(g) => stands(g, record, OPENED_GROUP, GROUP_DIGITS),
+            Numbers::Prefix(m, r) => words_stand(m, r, record, PREFIX),
+            Numbers::Closing(g, m, r) => {
+                stands(g, record, CLOSED_GROUP, GROUP_DIGITS)
+                    & words_stand(m, r, record, CLOSED_COUNTS)
+            },
+            Numbers::Totals(g, m, r) => {
+                stands(g, record, CLOSED_GROUP, GROUP_DIGITS)
+                    & pair_stands(m, r, record, CLOSED_COUNTS)
+            },
         }
     }
 
@@ -188,24 +208,18 @@ impl Numbers {
     {
         match self {
             Numbers::Nothing => {}
-            Numbers::Group(g) => write(g, out, 7, 5),
-            Numbers::Prefix(m, r) => write_words(m, r, out, 4),
+            Numbers::Group(g) => write(g, out, OPENED_GROUP, GROUP_DIGITS),
+            Numbers::Prefix(m, r) => write_words(m, r, out, PREFIX),
             Numbers::Closing(g, m, r) => {
-                write(g, out, 4, 5);
-                write_words(m, r, out, 9)
+                write(g, out, CLOSED_GROUP, GROUP_DIGITS);
+                write_words(m, r, out, CLOSED_COUNTS)
             }
             Numbers::Totals(g, m, r) => {
-                write(g, out, 4, 5);
-                write_pair(m, r, out, 9)
+                write(g, out, CLOSED_GROUP, GROUP_DIGITS);
+                write_pair(m, r, out, CLOSED_COUNTS)
             }
         }
     }
-}
-
-fn pick(first: bool, a: u64, b: u64) -> u64
-    ensures { λ r. ⌜ r ≡ cond first a b ⌝ }
-{
-    if first { a } else { b }
 }
 
 // Whether the field with this start, counted from 1, and this size has the digits of n.
@@ -231,15 +245,15 @@ fn pair_stands(m: u64, r: u64, record: &[u8], start: usize) -> bool
     requires { ⌜ (1 ≤ start) × (start - 1 + (8 + 8) ≤ length (now «record»)) ⌝ }
     ensures { λ s. ⌜ s ≡ sameBytes (fieldOf start (8 + 8) (now («record» .entry))) (pair m r) ⌝ }
 {
-    stands(m, record, start, 8) & stands(r, record, start + 8, 8)
+    stands(m, record, start, DIGITS) & stands(r, record, start + DIGITS, DIGITS)
 }
 
 fn write_pair(m: u64, r: u64, out: &mut [u8], start: usize)
     requires { ⌜ (1 ≤ start) × (start - 1 + (8 + 8) ≤ length (now out)) ⌝ }
     ensures { λ _. ⌜ now (out .exit) ≡ over start (pair m r) (now (out .entry)) ⌝ }
 {
-    write(m, out, start, 8);
-    write(r, out, start + 8, 8);
+    write(m, out, start, DIGITS);
+    write(r, out, start + DIGITS, DIGITS);
 }
 
 // The same as words.
@@ -247,14 +261,14 @@ fn word_stands(x: u64, record: &[u8], start: usize) -> bool
     requires { ⌜ (1 ≤ start) × (start - 1 + 8 ≤ length (now «record»)) ⌝ }
     ensures { λ r. ⌜ r ≡ sameBytes (fieldOf start 8 (now («record» .entry))) (bytesOf 8 x) ⌝ }
 {
-    text::is_word(x, text::field(record, start, 8))
+    text::is_word(x, text::field(record, start, DIGITS))
 }
 
 fn words_stand(m: u64, r: u64, record: &[u8], start: usize) -> bool
     requires { ⌜ (1 ≤ start) × (start - 1 + (8 + 8) ≤ length (now «record»)) ⌝ }
     ensures { λ s. ⌜ s ≡ sameBytes (fieldOf start (8 + 8) (now («record» .entry))) (words m r) ⌝ }
 {
-    word_stands(m, record, start) & word_stands(r, record, start + 8)
+    word_stands(m, record, start) & word_stands(r, record, start + DIGITS)
 }
 
 fn write_word(x: u64, out: &mut [u8], start: usize)
@@ -262,7 +276,7 @@ fn write_word(x: u64, out: &mut [u8], start: usize)
     ensures { λ _. ⌜ now (out .exit) ≡ over start (bytesOf 8 x) (now (out .entry)) ⌝ }
 {
     let a = start - 1;
-    let e = a + 8;
+    let e = a + DIGITS;
     text::store_eight(x, &mut out[a..e]);
 }
 
@@ -271,5 +285,5 @@ fn write_words(m: u64, r: u64, out: &mut [u8], start: usize)
     ensures { λ _. ⌜ now (out .exit) ≡ over start (words m r) (now (out .entry)) ⌝ }
 {
     write_word(m, out, start);
-    write_word(r, out, start + 8);
+    write_word(r, out, start + DIGITS);
 }

@@ -12,4 +12,5 @@ one-fits = record {
   number = λ f out r s a b p q. (answer-alone r s (p .0 ∙ sym (q .0)), p .1 ∙ sym (q .1));
   count = λ set r s p q. p ∙ sym q;
   lowest = λ set r s p q. p ∙ sym q;
+  record-length = λ r m n p q. p ∙ sym q;
 }

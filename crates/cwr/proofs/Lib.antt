@@ -1,4 +1,3 @@
 pub mod Outcomes
 pub mod Refusals
-pub mod Slots
 pub mod Alone

@@ -42,7 +42,7 @@ eighths r g =
 pub record Fit (f : Bytes) (v g : ℕ) : Type 0 where
   pub short : length f ≤ mostBytes
   pub here : Here f 0 unknown (restAt f 0)
-  pub room : Room 0 (length (restAt f 0)) v g
+  pub room : Room (length (restAt f 0)) v g
 
 passes-fit : (f : Bytes) (v g k m n : ℕ) → structure cwr22 f ≡ passed k m n → n ≤ v → 8 * n ≤ g → Fit f v g
 unfolding structure

@@ -1,8 +1,9 @@
 -- What each call promises of its answer and of what it leaves, and that one outcome alone fits it: proofs/Alone.antt has the proof.
 use Prim.Native.Nat.{ℕ}
 use mathlib.Core.Path.{_≡_}
-use lib.ListN.{length}
+use lib.ListN.{length, take}
 use Rattle.format.specs.Bytes.{Bytes}
+use Rattle.format.specs.Cwr22.{cwr22}
 use Rattle.rules.specs.Tables.{Tables}
 use Rattle.rules.specs.Findings.{places, countOf, lowestOf}
 use Rattle.rules.specs.Outcome.{Outcome, check}
@@ -29,9 +30,14 @@ Counted set r = r ≡ countOf (places 64 set)
 abbrev pub Lowest : ℕ → ℕ → Type 0
 Lowest set r = r ≡ lowestOf (places 64 set)
 
+-- `record_length`: the length that the table of types has for the record's first three bytes
+abbrev pub RightLength : Bytes → ℕ → Type 0
+RightLength r n = n ≡ cwr22 .len (take 3 r)
+
 pub record OneFits : Type 0 where
   pub check : (tables : Tables) (t : ℕ) (f v g : Bytes) (r s : Answer) (v₁ g₁ v₂ g₂ : Bytes) → Checked tables t f v g r v₁ g₁
       → Checked tables t f v g s v₂ g₂ → (r ≡ s) × (v₁ ≡ v₂) × (g₁ ≡ g₂)
   pub number : (f out : Bytes) (r s : Answer) (a b : Bytes) → Numbered f out r a → Numbered f out s b → (r ≡ s) × (a ≡ b)
   pub count : (set r s : ℕ) → Counted set r → Counted set s → r ≡ s
   pub lowest : (set r s : ℕ) → Lowest set r → Lowest set s → r ≡ s
+  pub record-length : (r : Bytes) (m n : ℕ) → RightLength r m → RightLength r n → m ≡ n

@@ -16,15 +16,7 @@ ghost use Rattle.answers.specs.Numbers.{answerOf};
 ghost use Rattle.structure.specs.Cursor.{Here};
 ghost use Rattle.transactions.specs.Walk.{restAt, Room};
 ghost use Rattle.files.specs.Levels.{WrittenFile};
-ghost use Rattle.cwr.specs.Indexes.{AllIndexed};
-ghost use Rattle.cwr.specs.Promises.{Checked, Numbered, Counted, Lowest};
-
-// How many bytes an entry of each table has.
-const LANGUAGE: usize = 2;
-
-const SOCIETY: usize = 3;
-
-const CATEGORY: usize = 3;
+ghost use Rattle.cwr.specs.Promises.{Checked, Numbered, Counted, Lowest, RightLength};
 
 // ---- refusals
 
@@ -56,13 +48,13 @@ fn answer(
     if !Share::is_tolerance(tolerance) {
         return Answer::Tolerance;
     }
-    if !tables::right(languages, LANGUAGE) {
+    if !tables::right(languages, tables::LANGUAGE) {
         return Answer::Table(0);
     }
-    if !tables::right(societies, SOCIETY) {
+    if !tables::right(societies, tables::SOCIETY) {
         return Answer::Table(1);
     }
-    if !tables::right(categories, CATEGORY) {
+    if !tables::right(categories, tables::CATEGORY) {
         return Answer::Table(2);
     }
     in_room(structure::check(file), verdicts, findings)
@@ -70,50 +62,7 @@ fn answer(
 
 // ---- the records of a file that passed
 
-// The indexes of the three tables, side by side.
-fn index_all(languages: &[u8], societies: &[u8], categories: &[u8], slots: &mut [u16])
-    requires { ⌜ (rightTable languageSize (now languages) ≡ true) × (rightTable societySize (now societies) ≡ true)
-        × (rightTable categorySize (now categories) ≡ true) × (length (now slots) ≡ 12288) ⌝ }
-    ensures { λ _. ⌜ AllIndexed (now (languages .entry)) (now (societies .entry)) (now (categories .entry)) (now (slots .exit)) ⌝ }
-{
-    tables::index(languages, LANGUAGE, &mut slots[0..4096]);
-    tables::index(societies, SOCIETY, &mut slots[4096..8192]);
-    tables::index(categories, CATEGORY, &mut slots[8192..12288]);
-}
-
-// Judges with those indexes.
-fn judge_indexed(
-    file: &[u8],
-    languages: &[u8],
-    societies: &[u8],
-    categories: &[u8],
-    tolerance: u64,
-    slots: &[u16],
-    verdicts: &mut [u8],
-    findings: &mut [u8],
-)
-    requires { ⌜ (length (now file) ≤ mostBytes) × Here (now file) 0 unknown (restAt (now file) 0)
-        × Room 0 (length (restAt (now file) 0)) (length (now verdicts)) (length (now findings)) ⌝ }
-    requires { ⌜ (tolerance ≤ largestTolerance) × AllIndexed (now languages) (now societies) (now categories) (now slots) ⌝ }
-    ensures { λ _. ⌜ WrittenFile (tablesOf (now (languages .entry)) (now (societies .entry)) (now (categories .entry)))
-        tolerance (now (file .entry)) (now (verdicts .entry)) (now (findings .entry)) (now (verdicts .exit)) (now (findings .exit)) ⌝ }
-{
-    files::judge_file(
-        file,
-        tolerance,
-        languages,
-        &slots[0..4096],
-        societies,
-        &slots[4096..8192],
-        categories,
-        &slots[8192..12288],
-        verdicts,
-        findings,
-    );
-}
-
-// The tables are indexed once, in slots on the stack. (A part of a local array cannot be lent, so the function that holds it lends it
-// whole.)
+// The tables are indexed once, in slots on the stack.
 fn judge(
     file: &[u8],
     languages: &[u8],
@@ -124,24 +73,15 @@ fn judge(
     findings: &mut [u8],
 )
     requires { ⌜ (length (now file) ≤ mostBytes) × Here (now file) 0 unknown (restAt (now file) 0)
-        × Room 0 (length (restAt (now file) 0)) (length (now verdicts)) (length (now findings)) ⌝ }
+        × Room (length (restAt (now file) 0)) (length (now verdicts)) (length (now findings)) ⌝ }
     requires { ⌜ (tolerance ≤ largestTolerance) × (rightTable languageSize (now languages) ≡ true)
         × (rightTable societySize (now societies) ≡ true) × (rightTable categorySize (now categories) ≡ true) ⌝ }
     ensures { λ _. ⌜ WrittenFile (tablesOf (now (languages .entry)) (now (societies .entry)) (now (categories .entry)))
         tolerance (now (file .entry)) (now (verdicts .entry)) (now (findings .entry)) (now (verdicts .exit)) (now (findings .exit)) ⌝ }
 {
-    let mut slots = [0u16; 12288];
-    index_all(languages, societies, categories, &mut slots);
-    judge_indexed(
-        file,
-        languages,
-        societies,
-        categories,
-        tolerance,
-        &slots,
-        verdicts,
-        findings,
-    );
+    let mut slots = [0u32; tables::SLOTS];
+    tables::index(languages, societies, categories, &mut slots);
+    files::judge_file(file, tolerance, &slots, verdicts, findings);
 }
 
 // ---- the calls
@@ -225,4 +165,12 @@ pub fn lowest(set: u64) -> u32
     ensures { λ r. ⌜ Lowest set r ⌝ }
 {
     findings::lowest(set)
+}
+
+// How many bytes a record of this one's type has, by its first three bytes; 0 where they are no type.
+pub fn record_length(record: &[u8]) -> u32
+    ensures { λ r. ⌜ RightLength (now («record» .entry)) r ⌝ }
+{
+    let row = kinds::row_of(record);
+    row.length as u32
 }

@@ -1,5 +1,6 @@
 -- What each call from C promises of the number that it answers and of what it leaves, and that one outcome alone fits it: proofs/Alone.antt
--- has the proof. `cwr_findings_count` and `cwr_findings_lowest` promise what `count` and `lowest` of `cwr` do.
+-- has the proof. `cwr_findings_count`, `cwr_findings_lowest` and `cwr_record_length` promise what `count`, `lowest` and
+-- `record_length` of `cwr` do.
 use Prim.Native.Nat.{ℕ}
 use mathlib.Core.Path.{_≡_}
 use lib.ListN.{length}

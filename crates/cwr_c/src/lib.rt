@@ -2,7 +2,7 @@
 // number of records. include/cwr.h declares these calls.
 ghost use Rattle.rules.specs.Outcome.{shortTolerance};
 ghost use Rattle.rules.specs.Tables.{tablesOf};
-ghost use Rattle.cwr.specs.Promises.{Counted, Lowest};
+ghost use Rattle.cwr.specs.Promises.{Counted, Lowest, RightLength};
 ghost use Rattle.cwr_c.specs.Promises.{CheckedC, NumberedC};
 
 // The short form of the check.
@@ -71,4 +71,12 @@ pub extern "C" fn cwr_findings_lowest(set: u64) -> u32
     ensures { λ r. ⌜ Lowest set r ⌝ }
 {
     cwr::lowest(set)
+}
+
+// How many bytes a record of this one's type has, by its first three bytes; 0 where they are no type.
+#[no_mangle]
+pub extern "C" fn cwr_record_length(record: &[u8]) -> u32
+    ensures { λ r. ⌜ RightLength (now («record» .entry)) r ⌝ }
+{
+    cwr::record_length(record)
 }

@@ -1,6 +1,7 @@
--- The laws that the proofs cite; Own and Types serve whoever calls these functions, too.
+-- The laws that the proofs cite; Own, Types, Sequences and Sorts serve whoever calls these functions, too.
 pub mod Types
 pub mod Own
-pub mod Places
-pub mod Before
+pub mod Sorts
+pub mod Codes
+pub mod Sequences
 pub mod Fields

@@ -14,6 +14,11 @@ use Rattle.kinds.proofs.Laws.{first-three}
 pub clash : true ≡ false → ⊥
 clash e = let z : _≡_ {A = ℕ} 0 1 = cc in omega arith
 
+pub same-truth : (x y : Bool) → (x ≡ true → y ≡ true) → (y ≡ true → x ≡ true) → x ≡ y
+same-truth true y f g = sym (f refl)
+same-truth false true f g = g refl
+same-truth false false f g = refl
+
 -- a record of the type t has no type u that differs from t
 pub not-other : (t u x : Bytes) → sameBytes t x ≡ true → sameBytes u t ≡ false → sameBytes u x ≡ false
 not-other t u x h d = ap (sameBytes u) (sym (same→eq t x h)) ∙ d
@@ -38,9 +43,13 @@ module _ (s t x : Bytes) (h : (sameBytes s x || sameBytes t x) ≡ true) where
 module _ (a b p q : ℕ) (differ : a ≡ b → ⊥) (r : Bytes) (long : 3 ≤ length r)
     (h : (sameBytes (a ∷ p ∷ q ∷ []) (take 3 r) || sameBytes (b ∷ p ∷ q ∷ []) (take 3 r)) ≡ true) where
   begins : (c : ℕ) → sameBytes (c ∷ p ∷ q ∷ []) (take 3 r) ≡ true → c ≡ getD r 0 0
-  begins c e = eqb-true c (getD r 0 0) (both (eqb c (getD r 0 0)) (sameBytes (p ∷ q ∷ []) (getD r 1 0 ∷ getD r 2 0 ∷ [])) (ap (sameBytes (c ∷ p ∷ q ∷ [])) (first-three r long) ∙ e) .0)
+  begins c e =
+      eqb-true c (getD r 0 0)
+      (both (eqb c (getD r 0 0)) (sameBytes (p ∷ q ∷ []) (getD r 1 0 ∷ getD r 2 0 ∷ []))
+      (ap (sameBytes (c ∷ p ∷ q ∷ [])) (first-three r long) ∙ e) .0)
 
-  pub by-first : (eqb a (getD r 0 0) ≡ sameBytes (a ∷ p ∷ q ∷ []) (take 3 r)) × (not (eqb a (getD r 0 0)) ≡ sameBytes (b ∷ p ∷ q ∷ []) (take 3 r))
+  pub by-first : (eqb a (getD r 0 0) ≡ sameBytes (a ∷ p ∷ q ∷ []) (take 3 r))
+      × (not (eqb a (getD r 0 0)) ≡ sameBytes (b ∷ p ∷ q ∷ []) (take 3 r))
   by-first =
       by-cases (sameBytes (a ∷ p ∷ q ∷ []) (take 3 r))
       (λ y.

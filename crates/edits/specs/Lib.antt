@@ -1,4 +1,4 @@
 pub mod Kinds
-pub mod Places
-pub mod Before
+pub mod Sequences
+pub mod Readings
 pub mod Judged

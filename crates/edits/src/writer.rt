@@ -2,104 +2,197 @@
 ghost use mathlib.Core.Path.{_≡_};
 ghost use mathlib.Core.Bool.{not};
 ghost use mathlib.Core.List.{List};
-ghost use Rattle.format.specs.Bytes.{Bytes};
+ghost use lib.ListN.{length};
+ghost use Rattle.format.specs.Bytes.{Bytes, among};
 ghost use Rattle.rules.specs.Tables.{Tables, designations};
 ghost use Rattle.rules.specs.Records.{isType};
-ghost use Rattle.rules.specs.Writer.{designation, designationInForce, is38, is39, is40, is41, is42};
-ghost use Rattle.edits.specs.Kinds.{Writer};
-ghost use Rattle.edits.specs.Places.{placeOf};
+ghost use Rattle.rules.specs.Writer.{partyNumber, lastName, designation, sharePR, shareMR, shareSR};
+ghost use Rattle.rules.specs.Writer.{designationInForce, is38, is39, is40, is42};
+ghost use Rattle.rules.specs.Writers.{creators, changers, authors};
+ghost use Rattle.totals.specs.Sums.{AtMost};
+ghost use Rattle.edits.specs.Kinds.{WriterRecord};
+ghost use Rattle.edits.specs.Readings.{WriterReads, FindsWriter};
 ghost use Rattle.edits.specs.Judged.{Judged};
 use super::Found;
-use super::pick;
+use super::is_code;
+use super::read_shares;
+use totals::Rights;
 use values::Share;
 
-// Whether it is an SWR; else it is an OWR.
+// What is read off a writer record.
+pub struct Writer {
+    // Whether it is an SWR; else it is an OWR.
+    pub swr: bool,
+    // Whether the designation is in the table; whether it is one of who makes a work, who changes one, who writes text.
+    pub listed: bool,
+    pub creator: bool,
+    pub changer: bool,
+    pub author: bool,
+    pub shares: Rights,
+    // Finding 41: a share that isn't five digits, or is over 10000.
+    pub bad_share: bool,
+}
+
+// ---- fields
+
+fn party_number(record: &[u8]) -> &[u8]
+    requires { ⌜ WriterRecord (now «record») ⌝ }
+    ensures { λ f. ⌜ (now f ≡ partyNumber (now («record» .entry))) × (length (now f) ≡ 9) ⌝ }
+{
+    text::field(record, 20, 9)
+}
+
+fn last_name(record: &[u8]) -> &[u8]
+    requires { ⌜ WriterRecord (now «record») ⌝ }
+    ensures { λ f. ⌜ (now f ≡ lastName (now («record» .entry))) × (length (now f) ≡ 45) ⌝ }
+{
+    text::field(record, 29, 45)
+}
+
+fn designation(record: &[u8]) -> &[u8]
+    requires { ⌜ WriterRecord (now «record») ⌝ }
+    ensures { λ f. ⌜ (now f ≡ designation (now («record» .entry))) × (length (now f) ≡ 2) ⌝ }
+{
+    text::field(record, 105, 2)
+}
+
+fn share_pr(record: &[u8]) -> &[u8]
+    requires { ⌜ WriterRecord (now «record») ⌝ }
+    ensures { λ f. ⌜ (now f ≡ sharePR (now («record» .entry))) × (length (now f) ≡ 5) ⌝ }
+{
+    text::field(record, 130, 5)
+}
+
+fn share_mr(record: &[u8]) -> &[u8]
+    requires { ⌜ WriterRecord (now «record») ⌝ }
+    ensures { λ f. ⌜ (now f ≡ shareMR (now («record» .entry))) × (length (now f) ≡ 5) ⌝ }
+{
+    text::field(record, 138, 5)
+}
+
+fn share_sr(record: &[u8]) -> &[u8]
+    requires { ⌜ WriterRecord (now «record») ⌝ }
+    ensures { λ f. ⌜ (now f ≡ shareSR (now («record» .entry))) × (length (now f) ≡ 5) ⌝ }
+{
+    text::field(record, 146, 5)
+}
+
+// ---- read once
+
+impl Writer {
+    pub fn read(record: &[u8]) -> Writer
+        requires { ⌜ WriterRecord (now «record») ⌝ }
+        ensures { λ w. ⌜ WriterReads w (now («record» .entry)) ⌝ }
+        ensures { λ w. ⌜ AtMost 99999 (w .shares) ⌝ }
+    {
+        let d = read_roles(record);
+        let shares = read_shares(
+            share_pr(record),
+            share_mr(record),
+            share_sr(record),
+            Share::FULL,
+        );
+        let counts = shares.counts;
+        Writer {
+            swr: is_swr(record),
+            listed: d.listed,
+            creator: d.creator,
+            changer: d.changer,
+            author: d.author,
+            shares: counts,
+            bad_share: shares.bad,
+        }
+    }
+}
+
 fn is_swr(record: &[u8]) -> bool
-    requires { ⌜ Writer (now «record») ⌝ }
+    requires { ⌜ WriterRecord (now «record») ⌝ }
     ensures { λ r. ⌜ r ≡ isType "SWR" (now («record» .entry)) ⌝ }
     ensures { λ r. ⌜ not r ≡ isType "OWR" (now («record» .entry)) ⌝ }
 {
     b'S' == record[0]
 }
 
-// The place of its designation in the table: 0 CA, 1 A, 2 C, 3 AR, 4 AD, 5 SR, 6 SA, 7 TR, 8 PA, 9 where it isn't there. The default
-// of 40 changes no place: it is spaces, which are not there either.
-pub fn designation_in_force(record: &[u8]) -> u8
-    requires { ⌜ Writer (now «record») ⌝ }
-    ensures { λ r. ⌜ r ≡ placeOf (designation (now («record» .entry))) designations ⌝ }
-    ensures { λ r. ⌜ r ≡ placeOf (designationInForce (now («record» .entry))) designations ⌝ }
-{
-    let code = text::field(record, 105, 2);
-    let first = code[0];
-    let second = code[1];
-    let pa = pick((b'P' == first) & (b'A' == second), 8, 9);
-    let tr = pick((b'T' == first) & (b'R' == second), 7, pa);
-    let sa = pick((b'S' == first) & (b'A' == second), 6, tr);
-    let sr = pick((b'S' == first) & (b'R' == second), 5, sa);
-    let ad = pick((b'A' == first) & (b'D' == second), 4, sr);
-    let ar = pick((b'A' == first) & (b'R' == second), 3, ad);
-    let composer = pick((b'C' == first) & (b' ' == second), 2, ar);
-    let author = pick((b'A' == first) & (b' ' == second), 1, composer);
-    pick((b'C' == first) & (b'A' == second), 0, author)
+// As in Writer.
+struct Roles {
+    listed: bool,
+    creator: bool,
+    changer: bool,
+    author: bool,
 }
 
-// SWR last name blank.
-fn found_38(record: &[u8]) -> bool
-    requires { ⌜ Writer (now «record») ⌝ }
-    ensures { λ r. ⌜ r ≡ is38 (now («record» .entry)) ⌝ }
+// The default of 40 is spaces, which are in the table as little as what it stands for: it changes nothing of this.
+fn read_roles(record: &[u8]) -> Roles
+    requires { ⌜ WriterRecord (now «record») ⌝ }
+    ensures { λ d. ⌜ d .listed ≡ among (designation (now («record» .entry))) designations ⌝ }
+    ensures { λ d. ⌜ d .creator ≡ among (designationInForce (now («record» .entry))) creators ⌝ }
+    ensures { λ d. ⌜ d .changer ≡ among (designationInForce (now («record» .entry))) changers ⌝ }
+    ensures { λ d. ⌜ d .author ≡ among (designationInForce (now («record» .entry))) authors ⌝ }
 {
-    is_swr(record) & text::blank(text::field(record, 29, 45))
+    let code = designation(record);
+    let ca = is_code(code, b'C', b'A');
+    let a = is_code(code, b'A', b' ');
+    let c = is_code(code, b'C', b' ');
+    let ar = is_code(code, b'A', b'R');
+    let ad = is_code(code, b'A', b'D');
+    let sr = is_code(code, b'S', b'R');
+    let sa = is_code(code, b'S', b'A');
+    let tr = is_code(code, b'T', b'R');
+    let pa = is_code(code, b'P', b'A');
+    Roles {
+        listed: ca | (a | (c | (ar | (ad | (sr | (sa | (tr | pa))))))),
+        creator: ca | (a | c),
+        changer: ar | (ad | (sr | (sa | tr))),
+        author: ca | (a | (sa | tr)),
+    }
+}
+
+// ---- the findings
+
+// SWR last name blank.
+fn found_38(w: Writer, record: &[u8]) -> bool
+    requires { ⌜ WriterRecord (now «record») ⌝ }
+    ensures { λ b. ⌜ (WriterReads w (now («record» .entry)) → b ≡ is38 (now («record» .entry))) ⌝ }
+{
+    w.swr & text::blank(last_name(record))
 }
 
 // SWR designation not in the table.
-fn found_39(record: &[u8], place: u8) -> bool
-    requires { ⌜ Writer (now «record») ⌝ }
-    requires { ⌜ place ≡ placeOf (designation (now «record»)) designations ⌝ }
-    ensures { λ r. ⌜ r ≡ is39 (now («record» .entry)) ⌝ }
+fn found_39(w: Writer) -> bool
+    ensures { λ b. ⌜ FindsWriter w b is39 ⌝ }
 {
-    is_swr(record) & (place == 9)
+    w.swr & !w.listed
 }
 
 // OWR designation entered, not in the table.
-fn found_40(record: &[u8], place: u8) -> bool
-    requires { ⌜ Writer (now «record») ⌝ }
-    requires { ⌜ place ≡ placeOf (designation (now «record»)) designations ⌝ }
-    ensures { λ r. ⌜ r ≡ is40 (now («record» .entry)) ⌝ }
+fn found_40(w: Writer, record: &[u8]) -> bool
+    requires { ⌜ WriterRecord (now «record») ⌝ }
+    ensures { λ b. ⌜ (WriterReads w (now («record» .entry)) → b ≡ is40 (now («record» .entry))) ⌝ }
 {
-    !is_swr(record) & !text::blank(text::field(record, 105, 2)) & (place == 9)
-}
-
-// A share that isn't five digits, or is over 10000.
-fn found_41(record: &[u8]) -> bool
-    requires { ⌜ Writer (now «record») ⌝ }
-    ensures { λ r. ⌜ r ≡ is41 (now («record» .entry)) ⌝ }
-{
-    Share::bad(text::field(record, 130, 5), Share::FULL)
-        | Share::bad(text::field(record, 138, 5), Share::FULL)
-        | Share::bad(text::field(record, 146, 5), Share::FULL)
+    !w.swr & !text::blank(designation(record)) & !w.listed
 }
 
 // SWR party number blank.
-fn found_42(record: &[u8]) -> bool
-    requires { ⌜ Writer (now «record») ⌝ }
-    ensures { λ r. ⌜ r ≡ is42 (now («record» .entry)) ⌝ }
+fn found_42(w: Writer, record: &[u8]) -> bool
+    requires { ⌜ WriterRecord (now «record») ⌝ }
+    ensures { λ b. ⌜ (WriterReads w (now («record» .entry)) → b ≡ is42 (now («record» .entry))) ⌝ }
 {
-    is_swr(record) & text::blank(text::field(record, 20, 9))
+    w.swr & text::blank(party_number(record))
 }
 
-pub fn judge(record: &[u8]) -> Found
-    requires { ⌜ Writer (now «record») ⌝ }
-    ensures { λ r. ⌜ ((tables : Tables) (before : List Bytes) → Judged tables before (now («record» .entry)) r) ⌝ }
+pub fn judge(w: Writer, record: &[u8]) -> Found
+    requires { ⌜ WriterRecord (now «record») ⌝ }
+    ensures { λ f. ⌜ ((tables : Tables) (before : List Bytes) → WriterReads w (now («record» .entry))
+        → Judged tables before (now («record» .entry)) f) ⌝ }
 {
-    let place = designation_in_force(record);
     super::gather(
         38,
         &[
-            found_38(record),
-            found_39(record, place),
-            found_40(record, place),
-            found_41(record),
-            found_42(record),
+            found_38(w, record),
+            found_39(w),
+            found_40(w, record),
+            w.bad_share,
+            found_42(w, record),
         ],
     )
 }

@@ -1,12 +1,11 @@
 -- A whole file: HDR, its groups, TRL. Assumes nothing.
-use Prim.Native.Nat.{ℕ, suc, _+_, _*_, _≤_, _<_}
+use Prim.Native.Nat.{ℕ, _+_}
 use native.Mathlib.Omega.{arith}
-use mathlib.Core.Path.{_≡_, refl, sym, ap, _∙_, subst}
-use mathlib.Core.Bool.{Bool}
-use mathlib.Core.List.{List, [], _∷_, _++_}
+use mathlib.Core.Path.{_≡_, refl, sym, ap, _∙_}
+use mathlib.Core.List.{[], _∷_}
 use lib.ListN.{length}
 use Rattle.format.specs.Bytes.{Bytes}
-use Rattle.format.specs.Table.{hdr, grt, unknown}
+use Rattle.format.specs.Table.{hdr, unknown}
 use Rattle.format.specs.Cwr22.{cwr22}
 use Rattle.format.specs.Checks.{is, cls}
 use Rattle.format.specs.Structure.{firstOf}
@@ -15,79 +14,33 @@ use Rattle.format.proofs.Logic.{is-T}
 use Rattle.format.proofs.Tree.{is→eq}
 use Rattle.format.proofs.Walks.{groups-skip}
 use Rattle.rules.specs.Tables.{Tables}
-use Rattle.rules.specs.Verdicts.{joined, groupFindings, fileFindings, groupVerdicts, fileVerdicts}
-use Rattle.rules.specs.Outcome.{content}
+use Rattle.rules.specs.Verdicts.{fileFindings, fileVerdicts}
 use Rattle.structure.specs.Cursor.{Here}
-use Rattle.buffers.specs.Written.{Written}
-use Rattle.buffers.proofs.Entries.{then}
-use Rattle.transactions.proofs.Laws.{some-record}
-use Rattle.transactions.specs.Walk.{restAt, tailOf, Room}
-use Rattle.files.specs.Levels.{Judged, WrittenFile}
-use Rattle.files.proofs.Controls.{header, next, follows}
-use Rattle.files.proofs.Levels.{room-left}
+use Rattle.transactions.specs.Walk.{restAt, tailOf, Position, Filled}
+use Rattle.transactions.proofs.Levels.{first-left}
+use Rattle.transactions.proofs.Entries.{filled-then}
+use Rattle.transactions.proofs.Sizes.{file-header, left-after, position-after}
+use Rattle.files.specs.Levels.{FilledGroups, WrittenFile}
+use Rattle.files.proofs.Controls.{follows}
 
 module _ {f : Bytes} (h : Here f 0 unknown (restAt f 0)) where
-  left : restAt f 0 ≡ firstOf (restAt f 0) ∷ tailOf (restAt f 0)
-  left = some-record unknown refl (restAt f 0) (h .placed)
+  pub outset : Position f (length (restAt f 0)) 0 0 unknown (restAt f 0)
+  outset = record { here = h; left = omega arith }
 
   is-hdr : cls cwr22 (firstOf (restAt f 0)) ≡ hdr
   is-hdr = sym (is→eq hdr _ (is-T (is hdr (cls cwr22 (firstOf (restAt f 0)))) (follows unknown refl (restAt f 0) (h .placed))))
 
-  first-group : Here f 169 hdr (tailOf (restAt f 0))
-  first-group = next header (subst (Here f 0 unknown) left h) is-hdr 169 refl
-
-  rest-is : restAt f 169 ≡ tailOf (restAt f 0)
-  rest-is = first-group .left
-
-  pub groups-here : Here f 169 hdr (restAt f 169)
-  groups-here = rw rest-is first-group
-
-  counted : length (restAt f 0) ≡ suc (length (restAt f 169))
-  counted = ap length left ∙ ap (λ l. suc (length l)) (sym rest-is)
-
-  pub header-room : {v g : ℕ} → Room 0 (length (restAt f 0)) v g → (0 < v) × (8 * (0 + 1) ≤ g)
-  header-room m = (omega (arith, m .inV, counted), omega (arith, m .inF, counted))
-
-  pub groups-room : {v g : ℕ} → Room 0 (length (restAt f 0)) v g → Room 1 (length (restAt f 169)) v g
-  groups-room m = record {
-    few = omega (arith, m .few, counted);
-    inV = omega (arith, m .inV, counted);
-    inF = omega (arith, m .inF, counted);
-  }
+  pub groups-here : Position f (length (restAt f 0)) 169 1 hdr (restAt f 169)
+  groups-here = position-after file-header outset refl is-hdr 169 refl
 
   same-groups : groupsIn cwr22 (restAt f 0) ≡ groupsIn cwr22 (restAt f 169)
   same-groups =
-      ap (groupsIn cwr22) left
+      ap (groupsIn cwr22) (first-left h refl)
       ∙ groups-skip cwr22 (firstOf (restAt f 0)) (tailOf (restAt f 0)) (rw is-hdr refl)
-      ∙ ap (groupsIn cwr22) (sym rest-is)
+      ∙ ap (groupsIn cwr22) (sym (left-after file-header outset refl is-hdr 169 refl))
 
-  module _ (tables : Tables) (t : ℕ) where
-    abbrev vs : List ℕ
-    vs = joined (groupVerdicts tables t) (groupsIn cwr22 (restAt f 169))
-
-    abbrev sets : List (List Bool)
-    sets = joined (groupFindings tables t) (groupsIn cwr22 (restAt f 169))
-
-    file-verdicts : fileVerdicts tables t (content f) ≡ (0 ∷ vs) ++ 0 ∷ []
-    unfolding fileVerdicts tree
-    file-verdicts = ap (λ gs. 0 ∷ joined (groupVerdicts tables t) gs ++ 0 ∷ []) same-groups
-
-    file-findings : fileFindings tables t (content f) ≡ ([] ∷ sets) ++ [] ∷ []
-    unfolding fileFindings tree
-    file-findings = ap (λ gs. [] ∷ joined (groupFindings tables t) gs ++ [] ∷ []) same-groups
-
-    module _ {v₁ g₁ v₂ g₂ : Bytes} {at n : ℕ}
-        (judged : Judged f (1 + length (restAt f 169)) 1 vs sets at n grt (restAt f at) v₁ g₁ v₂ g₂) (one : length (restAt f at) ≡ 1) where
-      pub trailer-room : Room 1 (length (restAt f 169)) (length v₁) (length g₁) → (n < length v₂) × (8 * (n + 1) ≤ length g₂)
-      trailer-room m =
-          let w = room-left (length (restAt f 169)) judged refl m in
-          (omega (arith, w .inV, one), omega (arith, w .inF, one))
-
-      pub file-done : {v₀ g₀ v₃ g₃ : Bytes} → Written 0 (0 ∷ []) ([] ∷ []) v₀ g₀ v₁ g₁
-          → Written n (0 ∷ []) ([] ∷ []) v₂ g₂ v₃ g₃
-          → WrittenFile tables t f v₀ g₀ v₃ g₃
-      file-done {v₀} {g₀} {v₃} {g₃} w₁ w₃ =
-          let i : n ≡ 0 + length ([] ∷ sets) = omega (arith, judged .index) in
-          let w₂ : Written 0 (0 ∷ vs) ([] ∷ sets) v₀ g₀ v₂ g₂ = then w₁ (judged .written) in
-          let w₄ : Written 0 ((0 ∷ vs) ++ 0 ∷ []) (([] ∷ sets) ++ [] ∷ []) v₀ g₀ v₃ g₃ = then w₂ (rw i at w₃) in
-          rw (file-verdicts, file-findings) w₄
+  pub written-file : (tables : Tables) (t n : ℕ) {v₀ g₀ v₁ g₁ v₂ g₂ v₃ g₃ : Bytes} → Filled 0 1 (0 ∷ []) ([] ∷ []) v₀ g₀ v₁ g₁
+      → FilledGroups tables t 1 n (groupsIn cwr22 (restAt f 169)) v₁ g₁ v₂ g₂ → Filled n (n + 1) (0 ∷ []) ([] ∷ []) v₂ g₂ v₃ g₃
+      → WrittenFile tables t f v₀ g₀ v₃ g₃
+  unfolding fileVerdicts fileFindings tree
+  written-file tables t n opened groups closed = rw same-groups (filled-then (filled-then opened groups) closed .written)

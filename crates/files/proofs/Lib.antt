@@ -1,5 +1,5 @@
 pub mod Controls
-pub mod Levels
+pub mod Entries
 pub mod Transactions
 pub mod Groups
 pub mod Files

@@ -1,39 +1,29 @@
--- The loop over the transactions of a group. Assumes nothing.
+-- The loop over the transactions of a group, whatever is done with each transaction. Assumes nothing.
 use Prim.Native.Nat.{ℕ, zero, suc, _+_, _<_}
 use native.Mathlib.Omega.{arith}
-use mathlib.Core.Path.{_≡_, refl, sym, ap, _∙_}
-use mathlib.Core.Bool.{Bool, true, false, false≢true, _||_}
-use mathlib.Core.List.{List, [], _∷_, _++_, append-nil}
+use mathlib.Core.Path.{_≡_, refl, sym, ap, _∙_, subst}
+use mathlib.Core.Bool.{true, false, false≢true, _||_}
+use mathlib.Core.List.{List, [], _∷_, _++_}
 use lib.ListN.{length}
 use Rattle.format.specs.Bytes.{Bytes}
 use Rattle.format.specs.Doc.{Transaction}
-use Rattle.format.specs.Table.{grh, head, grt}
+use Rattle.format.specs.Table.{grh, head}
 use Rattle.format.specs.Cwr22.{rows22, cwr22}
 use Rattle.format.specs.Checks.{is, cls, classAt}
 use Rattle.format.specs.Structure.{firstOf}
-use Rattle.format.specs.Tree.{span, after, isHead, isDetail, isInside}
+use Rattle.format.specs.Tree.{after, isHead, isDetail, isInside}
 use Rattle.format.proofs.Logic.{is-T}
 use Rattle.format.proofs.Tests.{by-cases}
 use Rattle.format.proofs.Tree.{is→eq}
 use Rattle.format.proofs.Walks.{transaction-first, transactions-none, inside-after}
-use Rattle.rules.specs.Tables.{Tables}
-use Rattle.rules.specs.Works.{is0, transactionFindings}
-use Rattle.rules.specs.Verdicts.{joined, transactionVerdicts}
-use Rattle.structure.specs.Cursor.{Here}
-use Rattle.buffers.proofs.Entries.{kept-v, kept-f}
-use Rattle.transactions.specs.declared.Passed.{Passed}
-use Rattle.transactions.specs.Walk.{restAt, tailOf, frontOf, Room, Transacted}
+use Rattle.rules.specs.Works.{is0}
 use Rattle.rules.proofs.Lists.{any-last}
-use Rattle.transactions.proofs.Laws.{length-details, some-record}
-use Rattle.files.specs.Levels.{transactionsOf, isStrayAmong, Judged, JudgedTransactions}
+use Rattle.transactions.specs.declared.Passed.{Passed}
+use Rattle.transactions.specs.Walk.{restAt, tailOf, frontOf, Position, PastTransaction}
+use Rattle.transactions.proofs.Levels.{Going, going-none, going-on, going-all, first-left}
+use Rattle.transactions.proofs.Gone.{length-parted}
+use Rattle.files.specs.Levels.{transactionsOf, isStrayAmong, PastTransactions}
 use Rattle.files.proofs.Controls.{follows, head-after, grt-after, as-head}
-use Rattle.files.proofs.Levels.{Going, going-none, going-room, going-on, going-end}
-
--- ---- lists
-
-pub length-parted : (p : Bytes → Bool) (rs : List Bytes) → length (span p rs) + length (after p rs) ≡ length rs
-length-parted p [] = refl
-length-parted p (r ∷ rs) = by-cases (p r) (λ e. rw e (omega (arith, length-parted p rs))) (λ e. rw e (omega arith))
 
 -- no detail stands where details end
 nothing-no-detail : isDetail cwr22 [] ≡ false
@@ -44,158 +34,128 @@ edge-of : (rs : List Bytes) → isDetail cwr22 (firstOf (after (isDetail cwr22) 
 edge-of [] = nothing-no-detail
 edge-of (r ∷ rs) = by-cases (isDetail cwr22 r) (λ e. rw e (edge-of rs)) (λ e. rw e e)
 
--- only 2 is the place of a header
-place-head : (n : ℕ) → classAt n ≡ head → n ≡ 2
-place-head zero e = absurd (false≢true (ap (is head) e))
-place-head (suc zero) e = absurd (false≢true (ap (is head) e))
-place-head (suc (suc zero)) e = refl
-place-head (suc (suc (suc zero))) e = absurd (false≢true (ap (is head) e))
-place-head (suc (suc (suc (suc zero)))) e = absurd (false≢true (ap (is head) e))
-place-head (suc (suc (suc (suc (suc zero))))) e = absurd (false≢true (ap (is head) e))
-place-head (suc (suc (suc (suc (suc (suc n)))))) e = absurd (false≢true (ap (is head) e))
+-- only 2 is the class of a header
+class-head : (n : ℕ) → classAt n ≡ head → n ≡ 2
+class-head zero e = absurd (false≢true (ap (is head) e))
+class-head (suc zero) e = absurd (false≢true (ap (is head) e))
+class-head (suc (suc zero)) e = refl
+class-head (suc (suc (suc zero))) e = absurd (false≢true (ap (is head) e))
+class-head (suc (suc (suc (suc zero)))) e = absurd (false≢true (ap (is head) e))
+class-head (suc (suc (suc (suc (suc zero))))) e = absurd (false≢true (ap (is head) e))
+class-head (suc (suc (suc (suc (suc (suc n)))))) e = absurd (false≢true (ap (is head) e))
 
--- ---- the loop
+-- the walk has gone over the transactions xs; the claim says what was done with them
+pub record Among (named f : Bytes) (m start : ℕ) (claim : List Transaction → Type 0) (p : Passed) (xs : List Transaction) : Type 0 where
+  pub going : Going transactionsOf f m start head claim (p .at) (p .index) xs
+  pub rest : after (isInside cwr22) (restAt f start) ≡ after (isInside cwr22) (restAt f (p .at))
+  pub class : classAt (p .class) ≡ cls cwr22 (firstOf (restAt f (p .at)))
+  pub edge : isDetail cwr22 (firstOf (restAt f (p .at))) ≡ false
+  pub stray : p .stray ≡ isStrayAmong named xs
 
-module _ (tables : Tables) (t : ℕ) (named f : Bytes) (start i : ℕ) (v₀ g₀ : Bytes) where
-  -- the transactions xs are done
-  pub record Among (p : Passed) (v g : Bytes) (xs : List Transaction) : Type 0 where
-    pub going : Going transactionsOf (transactionVerdicts tables t named) (transactionFindings tables t named) f start i v₀ g₀
-        (p .at) (p .index) head v g xs
-    pub rest : after (isInside cwr22) (restAt f start) ≡ after (isInside cwr22) (restAt f (p .at))
-    pub place : classAt (p .place) ≡ cls cwr22 (firstOf (restAt f (p .at)))
-    pub edge : isDetail cwr22 (firstOf (restAt f (p .at))) ≡ false
-    pub stray : p .stray ≡ isStrayAmong named xs
+abbrev pub Inv : (named f : Bytes) (m start : ℕ) (claim : List Transaction → Type 0) (p : Passed) → Type 0
+Inv named f m start claim p = (xs : List Transaction) × Among named f m start claim p xs
 
-  abbrev pub Inv : Passed → Bytes → Bytes → Type 0
-  Inv p v g = (xs : List Transaction) × Among p v g xs
+pub begins : {named f : Bytes} {m start i : ℕ} {claim : List Transaction → Type 0} → Position f m start i grh (restAt f start) → claim []
+    → Inv named f m start claim (record { at = start; index = i; class = 2; stray = false })
+begins {f = f} {m} {start} at-grh done =
+    let k : cls cwr22 (firstOf (restAt f start)) ≡ head = head-after _ (follows grh refl (restAt f start) (at-grh .here .placed)) in (
+      [],
+      record {
+        going = going-none transactionsOf f m start head (record { here = as-head (at-grh .here); left = at-grh .left }) done;
+        rest = refl;
+        class = sym k;
+        edge = rw k refl;
+        stray = refl;
+      },
+    )
 
-module _ (tables : Tables) (t : ℕ) (named : Bytes) {f : Bytes} {start i : ℕ} {v₀ g₀ : Bytes} where
-  pub among-none : Here f start grh (restAt f start) → Room i (length (restAt f start)) (length v₀) (length g₀)
-      → Inv tables t named f start i v₀ g₀ (record { at = start; index = i; place = 2; stray = false }) v₀ g₀
-  among-none h m =
-      let k : cls cwr22 (firstOf (restAt f start)) ≡ head = head-after _ (follows grh refl (restAt f start) (h .placed)) in (
-        [],
-        record {
-          going = going-none transactionsOf (transactionVerdicts tables t named) (transactionFindings tables t named) f start i v₀ g₀ (as-head h) m;
-          rest = refl;
-          place = sym k;
-          edge = rw k refl;
-          stray = refl;
-        },
-      )
+module _ {named f : Bytes} {m start : ℕ} {claim : List Transaction → Type 0} {p : Passed} (inv : Inv named f m start claim p) where
+  pub xs : List Transaction
+  xs = inv .0
 
-  module _ {p : Passed} {v g : Bytes} (inv : Inv tables t named f start i v₀ g₀ p v g) where
-    xs : List Transaction
-    xs = inv .0
+  among : Among named f m start claim p xs
+  unfolding xs
+  among = inv .1
 
-    among : Among tables t named f start i v₀ g₀ p v g xs
-    unfolding xs
-    among = inv .1
+  pub position : Position f m (p .at) (p .index) head (restAt f (p .at))
+  position = among .going .position
 
-    rs : List Bytes
-    rs = restAt f (p .at)
+  pub done : claim xs
+  done = among .going .done
 
-    pub here : Here f (p .at) head (restAt f (p .at))
-    here = among .going .judged .here
+  abbrev rs : List Bytes
+  rs = restAt f (p .at)
 
-    left : rs ≡ firstOf rs ∷ tailOf rs
-    unfolding rs
-    left = some-record head refl (restAt f (p .at)) (here .placed)
+  left : restAt f (p .at) ≡ firstOf (restAt f (p .at)) ∷ tailOf (restAt f (p .at))
+  left = first-left (position .here) refl
 
-    pub room : Room i (length (restAt f start)) (length v₀) (length g₀) → Room (p .index) (length (restAt f (p .at))) (length v) (length g)
-    room m = going-room transactionsOf (transactionVerdicts tables t named) (transactionFindings tables t named) f start i v₀ g₀ (among .going) m
+  pub header-here : p .class ≡ 2 → cls cwr22 (firstOf (restAt f (p .at))) ≡ head
+  header-here e = sym (among .class) ∙ ap classAt e
 
-    pub same-v : length v ≡ length v₀
-    same-v = kept-v (among .going .judged .written)
+  -- one transaction more
+  module _ (q : Passed) (e : p .class ≡ 2) (past : PastTransaction named f (p .index + length (restAt f (p .at))) (restAt f (p .at)) q) where
+    after-it : Position f m (q .at) (q .index) head (after (isDetail cwr22) (tailOf rs))
+    after-it = subst (λ (k : ℕ). Position f k (q .at) (q .index) head (after (isDetail cwr22) (tailOf rs))) (position .left) (past .position)
 
-    pub same-g : length g ≡ length g₀
-    same-g = kept-f (among .going .judged .written)
+    next : restAt f (q .at) ≡ after (isDetail cwr22) (tailOf rs)
+    next = after-it .here .left
 
-    pub header-here : p .place ≡ 2 → cls cwr22 (firstOf (restAt f (p .at))) ≡ head
-    header-here e = sym (among .place) ∙ ap classAt e
+    is-head : isHead cwr22 (firstOf rs) ≡ true
+    is-head = rw (header-here e) refl
 
-    -- one transaction more
-    module _ (q : Passed) {v' g' : Bytes} (e : p .place ≡ 2)
-        (done : Transacted tables t named f (p .index) (restAt f (p .at)) q v g v' g') where
-      abbrev left-over : List Bytes
-      left-over = after (isDetail cwr22) (tailOf (restAt f (p .at)))
+    pub one-more : {claim' : List Transaction → Type 0} → claim' (xs ++ frontOf (restAt f (p .at)) ∷ [])
+        → Inv named f m start claim' (record { at = q .at; index = q .index; class = q .class; stray = p .stray || q .stray })
+    one-more done' = (
+      xs ++ frontOf rs ∷ [],
+      record {
+        going =
+            going-on transactionsOf f m start head (among .going) (frontOf rs)
+            (ap transactionsOf left ∙ transaction-first cwr22 (firstOf rs) (tailOf rs) is-head) after-it done';
+        rest =
+            among .rest
+            ∙ ap (after (isInside cwr22)) left
+            ∙ rw is-head (inside-after cwr22 (tailOf rs))
+            ∙ ap (after (isInside cwr22)) (sym next);
+        class = past .class ∙ ap (λ l. cls cwr22 (firstOf l)) (sym next);
+        edge = ap (λ l. isDetail cwr22 (firstOf l)) next ∙ edge-of (tailOf rs);
+        stray =
+            ap (λ b. b || q .stray) (among .stray)
+            ∙ ap (λ b. isStrayAmong named xs || b) (past .stray)
+            ∙ sym (any-last (λ (x : Transaction). is0 named (x .header)) xs (frontOf rs));
+      },
+    )
 
-      counted : length rs ≡ suc (length (frontOf (restAt f (p .at)) .details) + length left-over)
-      unfolding rs
-      counted = ap length left ∙ ap suc (sym (length-parted (isDetail cwr22) (tailOf (restAt f (p .at)))))
+    -- so fewer records are left
+    pub fewer-left : length (restAt f (q .at)) < length (restAt f (p .at))
+    fewer-left = omega (arith, ap length next, ap length left, length-parted (isDetail cwr22) (tailOf rs))
 
-      one : Judged f (p .index + length (restAt f (p .at))) (p .index)
-          (transactionVerdicts tables t named (frontOf (restAt f (p .at))))
-          (transactionFindings tables t named (frontOf (restAt f (p .at))))
-          (q .at) (q .index) head left-over v g v' g'
-      unfolding rs transactionFindings
-      one = record {
-        here = done .here;
-        left = omega (arith, done .index, counted);
-        index = done .index ∙ omega (arith, length-details tables [] (frontOf (restAt f (p .at)) .details));
-        written = done .written;
-      }
+  -- none is left
+  module _ (e : p .class ≡ 2 → ⊥) where
+    no-head : isHead cwr22 (firstOf rs) ≡ false
+    no-head =
+        by-cases (isHead cwr22 (firstOf rs))
+        (λ q. absurd (e (class-head (p .class) (among .class ∙ sym (is→eq head _ (is-T (isHead cwr22 (firstOf rs)) q))))))
+        (λ q. q)
 
-      pub fewer : length (restAt f (q .at)) < length (restAt f (p .at))
-      unfolding rs
-      fewer = omega (arith, counted, ap length (done .here .left))
+    outside : isInside cwr22 (firstOf rs) ≡ false
+    outside = rw (no-head, among .edge) refl
 
-      is-head : isHead cwr22 (firstOf (restAt f (p .at))) ≡ true
-      is-head = rw (header-here e) refl
+    after-all : after (isInside cwr22) (restAt f start) ≡ rs
+    after-all = among .rest ∙ ap (after (isInside cwr22)) left ∙ rw outside (sym left)
 
-      pub among-on : Inv tables t named f start i v₀ g₀
-          (record { at = q .at; index = q .index; place = q .place; stray = p .stray || q .stray })
-          v' g'
-      unfolding rs
-      among-on = (
-        xs ++ frontOf (restAt f (p .at)) ∷ [],
-        record {
-          going =
-              going-on transactionsOf (transactionVerdicts tables t named) (transactionFindings tables t named) f start i v₀ g₀ (among .going)
-              (frontOf (restAt f (p .at)))
-              (ap transactionsOf left ∙ transaction-first cwr22 (firstOf (restAt f (p .at))) (tailOf (restAt f (p .at))) is-head)
-              one;
-          rest =
-              among .rest
-              ∙ ap (after (isInside cwr22)) left
-              ∙ rw is-head (inside-after cwr22 (tailOf (restAt f (p .at))))
-              ∙ ap (after (isInside cwr22)) (sym (done .here .left));
-          place = done .place ∙ ap (λ l. cls cwr22 (firstOf l)) (sym (done .here .left));
-          edge = ap (λ l. isDetail cwr22 (firstOf l)) (done .here .left) ∙ edge-of (tailOf (restAt f (p .at)));
-          stray =
-              ap (λ b. b || q .stray) (among .stray)
-              ∙ ap (λ b. isStrayAmong named xs || b) (done .stray)
-              ∙ sym (any-last (λ (x : Transaction). is0 named (x .header)) xs (frontOf (restAt f (p .at))));
-        },
-      )
+    all-transactions : transactionsOf (restAt f start) ≡ xs
+    all-transactions =
+        going-all transactionsOf f m start head (among .going)
+        (ap transactionsOf left ∙ transactions-none cwr22 (firstOf rs) (tailOf rs) outside)
 
-    -- none is left
-    module _ (e : p .place ≡ 2 → ⊥) where
-      no-head : isHead cwr22 (firstOf (restAt f (p .at))) ≡ false
-      no-head =
-          by-cases (isHead cwr22 (firstOf (restAt f (p .at))))
-          (λ q. absurd (e (place-head (p .place) (among .place ∙ sym (is→eq head _ (is-T (isHead cwr22 (firstOf (restAt f (p .at)))) q))))))
-          (λ q. q)
+    pub past-all : PastTransactions named f m (restAt f start) p
+    past-all = record {
+      position = rw after-all position;
+      closed =
+          ap (λ l. cls cwr22 (firstOf l)) after-all
+          ∙ grt-after _ (follows head refl rs (position .here .placed)) no-head (among .edge);
+      stray = among .stray ∙ ap (isStrayAmong named) (sym all-transactions);
+    }
 
-      outside : isInside cwr22 (firstOf (restAt f (p .at))) ≡ false
-      outside = rw (no-head, among .edge) refl
-
-      after-all : after (isInside cwr22) (restAt f start) ≡ restAt f (p .at)
-      unfolding rs
-      after-all = among .rest ∙ ap (after (isInside cwr22)) left ∙ rw outside (sym left)
-
-      none-left : transactionsOf (restAt f (p .at)) ≡ []
-      unfolding rs
-      none-left = ap transactionsOf left ∙ transactions-none cwr22 (firstOf (restAt f (p .at))) (tailOf (restAt f (p .at))) outside
-
-      pub among-end : JudgedTransactions tables t named f start i p v₀ g₀ v g
-      among-end =
-          rw after-all
-          (going-end transactionsOf (transactionVerdicts tables t named) (transactionFindings tables t named) f start i v₀ g₀ (among .going)
-          none-left)
-
-      pub among-stray : p .stray ≡ isStrayAmong named (transactionsOf (restAt f start))
-      among-stray = among .stray ∙ ap (isStrayAmong named) (sym (among .going .split ∙ ap (λ l. xs ++ l) none-left ∙ append-nil xs))
-
-      pub closed : cls cwr22 (firstOf (after (isInside cwr22) (restAt f start))) ≡ grt
-      closed = ap (λ l. cls cwr22 (firstOf l)) after-all ∙ grt-after _ (follows head refl (restAt f (p .at)) (here .placed)) no-head (among .edge)
+    pub all-done : claim (transactionsOf (restAt f start))
+    all-done = subst claim (sym all-transactions) done

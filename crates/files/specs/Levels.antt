@@ -1,13 +1,14 @@
--- Internal: the levels of a file: a group's transactions, a group, all groups. What is done of one, and what is left.
+-- Internal: the levels of a file: a group's transactions, a group, all groups. Where a walk stands past each, and what it has written.
 use mathlib.Core.Path.{_≡_}
 use mathlib.Core.Bool.{Bool}
-use mathlib.Core.List.{List}
-use Prim.Native.Nat.{ℕ, _+_}
+use mathlib.Core.List.{List, _∷_}
+use Prim.Native.Nat.{ℕ}
 use lib.ListN.{length}
 use Rattle.format.specs.Bytes.{Bytes}
 use Rattle.format.specs.Doc.{Group, Transaction}
-use Rattle.format.specs.Table.{Class, head, grt}
+use Rattle.format.specs.Table.{head, grt}
 use Rattle.format.specs.Cwr22.{cwr22}
+use Rattle.format.specs.Checks.{cls}
 use Rattle.format.specs.Structure.{firstOf}
 use Rattle.format.specs.Tree.{span, after, isInside, transactionsIn, groupsIn}
 use Rattle.rules.specs.Tables.{Tables}
@@ -15,10 +16,9 @@ use Rattle.rules.specs.Works.{is0, transactionFindings}
 use Rattle.rules.specs.Records.{any}
 use Rattle.rules.specs.Verdicts.{joined, groupFindings, fileFindings, transactionVerdicts, groupVerdicts, fileVerdicts}
 use Rattle.rules.specs.Outcome.{content}
-use Rattle.structure.specs.Cursor.{Here}
 use Rattle.buffers.specs.Written.{Written}
 use Rattle.transactions.specs.declared.Passed.{Passed}
-use Rattle.transactions.specs.Walk.{restAt, tailOf}
+use Rattle.transactions.specs.Walk.{restAt, tailOf, Position, Filled}
 use Rattle.files.specs.declared.Next.{Next}
 
 -- the transactions at the front of the records
@@ -40,37 +40,38 @@ groupOf rs = record {
 abbrev pub afterGroup : List Bytes → List Bytes
 afterGroup rs = tailOf (after (isInside cwr22) (tailOf rs))
 
--- from record i of m on, records have got these verdicts and sets; now the walk stands at a byte of the file, after a record of class c
--- and before record n, where the records rs begin. The buffers were v₀ and g₀ and are now v and g
-pub record Judged (f : Bytes) (m i : ℕ) (vs : List ℕ) (sets : List (List Bool)) (at n : ℕ) (c : Class) (rs : List Bytes)
-    (v₀ g₀ v g : Bytes) : Type 0 where
-  pub here : Here f at c rs
-  pub left : n + length rs ≡ m
-  pub index : n ≡ i + length sets
-  pub written : Written i vs sets v₀ g₀ v g
+-- ---- where a walk stands
 
--- so for each level: what stands at a byte of the file, its first record being that one of the file
+-- past the transactions at the front of the records rs, under a GRH that names a type
+pub record PastTransactions (named f : Bytes) (m : ℕ) (rs : List Bytes) (p : Passed) : Type 0 where
+  pub position : Position f m (p .at) (p .index) head (after (isInside cwr22) rs)
+  pub closed : cls cwr22 (firstOf (after (isInside cwr22) rs)) ≡ grt
+  pub stray : p .stray ≡ isStrayAmong named (transactionsOf rs)
 
-abbrev pub JudgedTransactions : (tables : Tables) (t : ℕ) (named f : Bytes) (start first : ℕ) (p : Passed) (v₀ g₀ v g : Bytes) → Type 0
-JudgedTransactions tables t named f start first p v₀ g₀ v g =
-    Judged f (first + length (restAt f start)) first
-    (joined (transactionVerdicts tables t named) (transactionsOf (restAt f start)))
-    (joined (transactionFindings tables t named) (transactionsOf (restAt f start)))
-    (p .at) (p .index) head (after (isInside cwr22) (restAt f start)) v₀ g₀ v g
+-- past the group that opens the records rs
+pub record PastGroup (f : Bytes) (m : ℕ) (rs : List Bytes) (n : Next) : Type 0 where
+  pub position : Position f m (n .at) (n .index) grt (afterGroup rs)
+  pub groups : groupsIn cwr22 rs ≡ groupOf rs ∷ groupsIn cwr22 (afterGroup rs)
 
-abbrev pub JudgedGroup : (tables : Tables) (t : ℕ) (f : Bytes) (at index : ℕ) (n : Next) (v₀ g₀ v g : Bytes) → Type 0
-JudgedGroup tables t f at index n v₀ g₀ v g =
-    Judged f (index + length (restAt f at)) index
-    (groupVerdicts tables t (groupOf (restAt f at)))
-    (groupFindings tables t (groupOf (restAt f at)))
-    (n .at) (n .index) grt (afterGroup (restAt f at)) v₀ g₀ v g
+-- past all groups: before TRL
+pub record PastGroups (f : Bytes) (m : ℕ) (n : Next) : Type 0 where
+  pub position : Position f m (n .at) (n .index) grt (restAt f (n .at))
+  pub trailer : length (restAt f (n .at)) ≡ 1
 
-abbrev pub JudgedGroups : (tables : Tables) (t : ℕ) (f : Bytes) (start first : ℕ) (n : Next) (v₀ g₀ v g : Bytes) → Type 0
-JudgedGroups tables t f start first n v₀ g₀ v g =
-    Judged f (first + length (restAt f start)) first
-    (joined (groupVerdicts tables t) (groupsIn cwr22 (restAt f start)))
-    (joined (groupFindings tables t) (groupsIn cwr22 (restAt f start)))
-    (n .at) (n .index) grt (restAt f (n .at)) v₀ g₀ v g
+-- ---- what it has written: records i to n are ..
+
+-- .. these transactions
+abbrev pub FilledTransactions : (tables : Tables) (t : ℕ) (named : Bytes) (i n : ℕ) (xs : List Transaction) (v₀ g₀ v g : Bytes) → Type 0
+FilledTransactions tables t named i n xs v₀ g₀ v g =
+    Filled i n (joined (transactionVerdicts tables t named) xs) (joined (transactionFindings tables t named) xs) v₀ g₀ v g
+
+-- .. this group
+abbrev pub FilledGroup : (tables : Tables) (t i n : ℕ) (x : Group) (v₀ g₀ v g : Bytes) → Type 0
+FilledGroup tables t i n x v₀ g₀ v g = Filled i n (groupVerdicts tables t x) (groupFindings tables t x) v₀ g₀ v g
+
+-- .. these groups
+abbrev pub FilledGroups : (tables : Tables) (t i n : ℕ) (xs : List Group) (v₀ g₀ v g : Bytes) → Type 0
+FilledGroups tables t i n xs v₀ g₀ v g = Filled i n (joined (groupVerdicts tables t) xs) (joined (groupFindings tables t) xs) v₀ g₀ v g
 
 -- all verdicts and sets of a file are written
 abbrev pub WrittenFile : (tables : Tables) (t : ℕ) (f v₀ g₀ v g : Bytes) → Type 0

@@ -1,35 +1,25 @@
 // A whole file that is right by 3 to 10: its groups one after the other, and in each its transactions. Each record's set and verdict is
 // written as it comes; at the end of a group its verdicts are raised where a header in it has finding 0.
-use buffers::raise;
-use buffers::settle;
+use findings::GR;
 use kinds::HEAD;
 use transactions::Passed;
 ghost use mathlib.Core.Path.{_≡_};
-ghost use mathlib.Core.Bool.{cond};
-ghost use mathlib.Core.List.{_∷_};
-ghost use Prim.Native.Nat.{_≤_, _<_};
+ghost use mathlib.Core.List.{[], _∷_};
+ghost use Prim.Native.Nat.{_+_, _*_, _≤_, _<_};
 ghost use lib.Dec.{eqb};
 ghost use lib.ListN.{length, getD};
 ghost use Rattle.format.specs.Table.{hdr, grh, grt, unknown};
 ghost use Rattle.format.specs.Cwr22.{cwr22};
 ghost use Rattle.format.specs.Checks.{cls};
 ghost use Rattle.format.specs.Structure.{mostBytes, firstOf};
-ghost use Rattle.format.specs.Tree.{after, isInside, groupsIn};
+ghost use Rattle.format.specs.Tree.{groupsIn};
+ghost use Rattle.rules.specs.Tables.{Tables};
+ghost use Rattle.rules.specs.Values.{largestTolerance};
+ghost use Rattle.tables.specs.Index.{Indexed};
 ghost use Rattle.structure.specs.Cursor.{Here};
-ghost use Rattle.transactions.specs.Walk.{restAt, Prepared, Room};
-ghost use Rattle.rules.specs.Tables.{tablesOf};
-ghost use Rattle.files.specs.Levels.{transactionsOf, groupOf, afterGroup, isStrayAmong};
-ghost use Rattle.files.specs.Levels.{JudgedTransactions, JudgedGroup, JudgedGroups, WrittenFile};
-
-// How long the records are that open and close a file and its groups.
-const HDR_LENGTH: usize = 167;
-
-const GRH_LENGTH: usize = 28;
-
-const GRT_LENGTH: usize = 37;
-
-// The first letter of GRH.
-const G: u8 = 71;
+ghost use Rattle.transactions.specs.Walk.{restAt, Prepared, Room, Filled};
+ghost use Rattle.files.specs.Levels.{transactionsOf, groupOf, PastTransactions, PastGroup, PastGroups};
+ghost use Rattle.files.specs.Levels.{FilledTransactions, FilledGroup, FilledGroups, WrittenFile};
 
 // Before a record of that number, which begins at that byte.
 pub struct Next {
@@ -37,10 +27,13 @@ pub struct Next {
     pub index: usize,
 }
 
-fn least_verdict(stray: bool) -> u8
-    ensures { λ r. ⌜ r ≡ cond stray 4 0 ⌝ }
+// The entry of a record that has no finding: HDR, GRH, GRT or TRL.
+fn settle_control(index: usize, verdicts: &mut [u8], findings: &mut [u8])
+    requires { ⌜ (index < length (now verdicts)) × (8 * (index + 1) ≤ length (now findings)) ⌝ }
+    ensures { λ _. ⌜ Filled index (index + 1) (0 ∷ []) ([] ∷ [])
+        (now (verdicts .entry)) (now (findings .entry)) (now (verdicts .exit)) (now (findings .exit)) ⌝ }
 {
-    if stray { 4 } else { 0 }
+    buffers::settle(index, 0, 0, verdicts, findings);
 }
 
 // The transactions of a group, after its GRH, which names that type.
@@ -50,51 +43,40 @@ fn judge_transactions(
     first: usize,
     named: &[u8],
     t: u64,
-    languages: &[u8],
-    language_slots: &[u16],
-    societies: &[u8],
-    society_slots: &[u16],
-    categories: &[u8],
-    category_slots: &[u16],
+    slots: &tables::Slots,
     verdicts: &mut [u8],
     findings: &mut [u8],
 ) -> Passed
     requires { ⌜ (length (now file) ≤ mostBytes) × Here (now file) start grh (restAt (now file) start)
-        × Room first (length (restAt (now file) start)) (length (now verdicts)) (length (now findings)) ⌝ }
-    requires { ⌜ Prepared t (now languages) (now «language_slots») (now societies) (now «society_slots»)
-        (now categories) (now «category_slots») ⌝ }
-    ensures { λ p. ⌜ JudgedTransactions (tablesOf (now (languages .entry)) (now (societies .entry)) (now (categories .entry)))
-        t (now (named .entry)) (now (file .entry)) start first p
-        (now (verdicts .entry)) (now (findings .entry)) (now (verdicts .exit)) (now (findings .exit)) ⌝ }
-    ensures { λ p. ⌜ (p .stray ≡ isStrayAmong (now (named .entry)) (transactionsOf (restAt (now (file .entry)) start)))
-        × (cls cwr22 (firstOf (after (isInside cwr22) (restAt (now (file .entry)) start))) ≡ grt) ⌝ }
+        × Room (first + length (restAt (now file) start)) (length (now verdicts)) (length (now findings)) ⌝ }
+    requires { ⌜ (t ≤ largestTolerance) × Prepared (now slots) ⌝ }
+    ensures { λ p. ⌜ PastTransactions (now (named .entry)) (now (file .entry)) (first + length (restAt (now (file .entry)) start))
+        (restAt (now (file .entry)) start) p ⌝ }
+    ensures { λ p. ⌜ ((tables : Tables) → Indexed tables (now (slots .entry))
+        → FilledTransactions tables t (now (named .entry)) first (p .index) (transactionsOf (restAt (now (file .entry)) start))
+        (now (verdicts .entry)) (now (findings .entry)) (now (verdicts .exit)) (now (findings .exit))) ⌝ }
 {
     let mut p = Passed {
         at: start,
         index: first,
-        place: HEAD,
+        class: HEAD,
         stray: false,
     };
-    while p.place == HEAD {
+    while p.class == HEAD {
         let q = transactions::judge_transaction(
             file,
             p.at,
             p.index,
             named,
             t,
-            languages,
-            language_slots,
-            societies,
-            society_slots,
-            categories,
-            category_slots,
+            slots,
             verdicts,
             findings,
         );
         p = Passed {
             at: q.at,
             index: q.index,
-            place: q.place,
+            class: q.class,
             stray: p.stray | q.stray,
         };
     }
@@ -107,52 +89,40 @@ fn judge_group(
     at: usize,
     index: usize,
     t: u64,
-    languages: &[u8],
-    language_slots: &[u16],
-    societies: &[u8],
-    society_slots: &[u16],
-    categories: &[u8],
-    category_slots: &[u16],
+    slots: &tables::Slots,
     verdicts: &mut [u8],
     findings: &mut [u8],
 ) -> Next
     requires { ⌜ (length (now file) ≤ mostBytes) × Here (now file) at grt (restAt (now file) at)
         × (cls cwr22 (firstOf (restAt (now file) at)) ≡ grh)
-        × Room index (length (restAt (now file) at)) (length (now verdicts)) (length (now findings)) ⌝ }
-    requires { ⌜ Prepared t (now languages) (now «language_slots») (now societies) (now «society_slots»)
-        (now categories) (now «category_slots») ⌝ }
-    ensures { λ n. ⌜ JudgedGroup (tablesOf (now (languages .entry)) (now (societies .entry)) (now (categories .entry)))
-        t (now (file .entry)) at index n
-        (now (verdicts .entry)) (now (findings .entry)) (now (verdicts .exit)) (now (findings .exit)) ⌝ }
-    ensures { λ _. ⌜ groupsIn cwr22 (restAt (now (file .entry)) at)
-        ≡ groupOf (restAt (now (file .entry)) at) ∷ groupsIn cwr22 (afterGroup (restAt (now (file .entry)) at)) ⌝ }
+        × Room (index + length (restAt (now file) at)) (length (now verdicts)) (length (now findings)) ⌝ }
+    requires { ⌜ (t ≤ largestTolerance) × Prepared (now slots) ⌝ }
+    ensures { λ n. ⌜ PastGroup (now (file .entry)) (index + length (restAt (now (file .entry)) at)) (restAt (now (file .entry)) at) n ⌝ }
+    ensures { λ n. ⌜ ((tables : Tables) → Indexed tables (now (slots .entry))
+        → FilledGroup tables t index (n .index) (groupOf (restAt (now (file .entry)) at))
+        (now (verdicts .entry)) (now (findings .entry)) (now (verdicts .exit)) (now (findings .exit))) ⌝ }
 {
-    let end = at + GRH_LENGTH;
+    let end = at + kinds::GRH_LENGTH as usize;
     let opening = &file[at..end];
     let named = text::field(opening, 4, 3);
-    settle(index, 0, 0, verdicts, findings);
+    settle_control(index, verdicts, findings);
     let p = judge_transactions(
         file,
         end + 2,
         index + 1,
         named,
         t,
-        languages,
-        language_slots,
-        societies,
-        society_slots,
-        categories,
-        category_slots,
+        slots,
         verdicts,
         findings,
     );
     let last = p.index;
-    settle(last, 0, 0, verdicts, findings);
+    settle_control(last, verdicts, findings);
     let e = last + 1;
-    let least = least_verdict(p.stray);
-    raise(&mut verdicts[index..e], least);
+    let least = buffers::least(p.stray, GR);
+    buffers::raise(&mut verdicts[index..e], least);
     Next {
-        at: p.at + GRT_LENGTH + 2,
+        at: p.at + kinds::GRT_LENGTH as usize + 2,
         index: e,
     }
 }
@@ -162,7 +132,7 @@ fn is_group(file: &[u8], at: usize) -> bool
     requires { ⌜ at < length (now file) ⌝ }
     ensures { λ r. ⌜ r ≡ eqb (getD (now (file .entry)) at 0) 71 ⌝ }
 {
-    file[at] == G
+    file[at] == b'G'
 }
 
 // The groups that stand here, up to TRL.
@@ -171,82 +141,52 @@ fn judge_groups(
     start: usize,
     first: usize,
     t: u64,
-    languages: &[u8],
-    language_slots: &[u16],
-    societies: &[u8],
-    society_slots: &[u16],
-    categories: &[u8],
-    category_slots: &[u16],
+    slots: &tables::Slots,
     verdicts: &mut [u8],
     findings: &mut [u8],
 ) -> Next
     requires { ⌜ (length (now file) ≤ mostBytes) × Here (now file) start hdr (restAt (now file) start)
-        × Room first (length (restAt (now file) start)) (length (now verdicts)) (length (now findings)) ⌝ }
-    requires { ⌜ Prepared t (now languages) (now «language_slots») (now societies) (now «society_slots»)
-        (now categories) (now «category_slots») ⌝ }
-    ensures { λ n. ⌜ JudgedGroups (tablesOf (now (languages .entry)) (now (societies .entry)) (now (categories .entry)))
-        t (now (file .entry)) start first n
-        (now (verdicts .entry)) (now (findings .entry)) (now (verdicts .exit)) (now (findings .exit)) ⌝ }
-    ensures { λ n. ⌜ length (restAt (now (file .entry)) (n .at)) ≡ 1 ⌝ }
+        × Room (first + length (restAt (now file) start)) (length (now verdicts)) (length (now findings)) ⌝ }
+    requires { ⌜ (t ≤ largestTolerance) × Prepared (now slots) ⌝ }
+    ensures { λ n. ⌜ PastGroups (now (file .entry)) (first + length (restAt (now (file .entry)) start)) n ⌝ }
+    ensures { λ n. ⌜ ((tables : Tables) → Indexed tables (now (slots .entry))
+        → FilledGroups tables t first (n .index) (groupsIn cwr22 (restAt (now (file .entry)) start))
+        (now (verdicts .entry)) (now (findings .entry)) (now (verdicts .exit)) (now (findings .exit))) ⌝ }
 {
     let mut n = Next {
         at: start,
         index: first,
     };
     while is_group(file, n.at) {
-        n = judge_group(
-            file,
-            n.at,
-            n.index,
-            t,
-            languages,
-            language_slots,
-            societies,
-            society_slots,
-            categories,
-            category_slots,
-            verdicts,
-            findings,
-        );
+        n = judge_group(file, n.at, n.index, t, slots, verdicts, findings);
     }
     n
 }
 
-// All records of a file. HDR and TRL have no finding.
+// All records of a file.
 pub fn judge_file(
     file: &[u8],
     t: u64,
-    languages: &[u8],
-    language_slots: &[u16],
-    societies: &[u8],
-    society_slots: &[u16],
-    categories: &[u8],
-    category_slots: &[u16],
+    slots: &tables::Slots,
     verdicts: &mut [u8],
     findings: &mut [u8],
 )
     requires { ⌜ (length (now file) ≤ mostBytes) × Here (now file) 0 unknown (restAt (now file) 0)
-        × Room 0 (length (restAt (now file) 0)) (length (now verdicts)) (length (now findings)) ⌝ }
-    requires { ⌜ Prepared t (now languages) (now «language_slots») (now societies) (now «society_slots»)
-        (now categories) (now «category_slots») ⌝ }
-    ensures { λ _. ⌜ WrittenFile (tablesOf (now (languages .entry)) (now (societies .entry)) (now (categories .entry)))
-        t (now (file .entry))
-        (now (verdicts .entry)) (now (findings .entry)) (now (verdicts .exit)) (now (findings .exit)) ⌝ }
+        × Room (length (restAt (now file) 0)) (length (now verdicts)) (length (now findings)) ⌝ }
+    requires { ⌜ (t ≤ largestTolerance) × Prepared (now slots) ⌝ }
+    ensures { λ _. ⌜ ((tables : Tables) → Indexed tables (now (slots .entry))
+        → WrittenFile tables t (now (file .entry))
+        (now (verdicts .entry)) (now (findings .entry)) (now (verdicts .exit)) (now (findings .exit))) ⌝ }
 {
-    settle(0, 0, 0, verdicts, findings);
+    settle_control(0, verdicts, findings);
     let n = judge_groups(
         file,
-        HDR_LENGTH + 2,
+        kinds::HDR_LENGTH as usize + 2,
         1,
         t,
-        languages,
-        language_slots,
-        societies,
-        society_slots,
-        categories,
-        category_slots,
+        slots,
         verdicts,
         findings,
     );
-    settle(n.index, 0, 0, verdicts, findings);
+    settle_control(n.index, verdicts, findings);
 }

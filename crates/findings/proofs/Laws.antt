@@ -1,19 +1,18 @@
--- The bits of a number counted and searched, the set of a list read back, findings that do not hold after a list, and eight bytes
--- stored. Assumes nothing.
+-- The bits of a number counted and searched, the set of a list read back, and findings that do not hold after a list.
+-- Assumes nothing.
 use mathlib.Core.Path.{_≡_, refl, sym, ap, _∙_}
 use mathlib.Core.Bool.{Bool, true, false, cond}
-use mathlib.Core.List.{List, [], _∷_, _++_, append-nil}
+use mathlib.Core.List.{List, [], _∷_, _++_}
 use Prim.Native.Nat.{ℕ, zero, suc, _+_, _-_, _*_, _/_, _%_, _^_, _<_, _≤_}
 use native.Mathlib.Nat.{pow-suc, mul-assoc, mul-comm, mul-one, not-suc-le-zero, le-of-suc-le-suc}
 use native.Mathlib.Omega.{arith}
 use lib.Dec.{leb, eqb}
 use lib.Count.{ones, trailingZeros, ones-step, under}
 use lib.ListN.{length, replicate, drop, getD, drop-of-length-le, length-append, length-replicate, length-drop}
-use lib.Seq.{sets, sets-eq, drop-cons}
+use lib.Seq.{drop-cons}
 use borrow.Author.Tests.{leb-true, leb-false, le-leb, lt-leb}
-use Rattle.format.specs.Bytes.{Bytes}
 use Rattle.format.proofs.Tests.{by-cases}
-use Rattle.rules.specs.Findings.{setOf, places, countOf, lowestOf, bytesOf, verdictOf, level, larger, worstFrom, worst}
+use Rattle.rules.specs.Findings.{setOf, places, countOf, lowestOf, verdictOf, level, larger, worstFrom, worst}
 use Rattle.rules.proofs.Verdicts.{larger-zero}
 use Rattle.findings.specs.Many.{many}
 
@@ -228,11 +227,3 @@ worst-after n (b ∷ bs) cs =
     let here = cond b (verdictOf (level n)) 0 in
     ap (larger here) (worst-after (suc n) bs cs ∙ ap (λ (x : ℕ). larger (worstFrom (suc n) bs) (worstFrom x cs)) e)
     ∙ sym (larger-assoc here (worstFrom (suc n) bs) (worstFrom (n + suc (length bs)) cs))
-
--- ---- eight stores over eight bytes
-
-pub stores : (l : Bytes) (x : ℕ) → length l ≡ 8 → sets l 0 (bytesOf 8 x) ≡ bytesOf 8 x
-unfolding bytesOf
-stores l x h =
-    sets-eq (bytesOf 8 x) l 0 (let e : 8 ≤ length l = omega arith in e)
-    ∙ rw (drop-of-length-le l {i = 8} (omega arith)) (append-nil (bytesOf 8 x))

@@ -2,19 +2,11 @@
 // largest verdict among them, and of a set how many are in it, the lowest, and its eight bytes.
 ghost use mathlib.Core.Path.{_≡_};
 ghost use Prim.Native.Nat.{_+_, _≤_};
-ghost use mathlib.Core.Bool.{false, cond};
+ghost use mathlib.Core.Bool.{false};
 ghost use mathlib.Core.List.{_++_};
 ghost use lib.ListN.{length, replicate};
-ghost use Rattle.rules.specs.Findings.{setOf, places, countOf, lowestOf, bytesOf, larger, worst};
+ghost use Rattle.rules.specs.Findings.{setOf, places, countOf, lowestOf, larger, worst};
 ghost use Rattle.findings.specs.Many.{many};
-
-// A finding as a bit: 1 where it holds.
-pub fn bit(holds: bool) -> u64
-    ensures { λ r. ⌜ r ≡ cond holds 1 0 ⌝ }
-    ensures { λ r. ⌜ r ≤ 1 ⌝ }
-{
-    if holds { 1 } else { 0 }
-}
 
 // The set of the findings from number `first` on, each of which holds or not.
 pub fn pack(first: usize, holds: &[bool]) -> u64
@@ -25,7 +17,7 @@ pub fn pack(first: usize, holds: &[bool]) -> u64
     let mut i = holds.len();
     while 0 < i {
         i -= 1;
-        set = 2 * set + bit(holds[i]);
+        set = 2 * set + either::bit(holds[i]);
     }
     set << first
 }
@@ -104,13 +96,6 @@ const VERDICTS: [u8; 47] = [
     FR,
 ];
 
-// What a finding brings where it holds.
-fn brought(holds: bool, verdict: u8) -> u8
-    ensures { λ r. ⌜ r ≡ cond holds verdict 0 ⌝ }
-{
-    if holds { verdict } else { 0 }
-}
-
 // The largest verdict of the findings from number `first` on, each of which holds or not.
 pub fn worst(first: usize, holds: &[bool]) -> u8
     requires { ⌜ first + length (now holds) ≤ many ⌝ }
@@ -121,7 +106,7 @@ pub fn worst(first: usize, holds: &[bool]) -> u8
     let mut i = holds.len();
     while 0 < i {
         i -= 1;
-        most = larger(brought(holds[i], verdicts[first + i]), most);
+        most = larger(either::byte(holds[i], verdicts[first + i], 0), most);
     }
     most
 }
@@ -138,26 +123,4 @@ pub fn lowest(set: u64) -> u32
     ensures { λ r. ⌜ r ≡ lowestOf (places 64 set) ⌝ }
 {
     u64::trailing_zeros(set)
-}
-
-// Writes the eight bytes of a set, least significant first.
-pub fn put(set: u64, out: &mut [u8])
-    requires { ⌜ length (now out) ≡ 8 ⌝ }
-    ensures { λ _. ⌜ now (out .exit) ≡ bytesOf 8 set ⌝ }
-{
-    out[0] = (set % 256) as u8;
-    let a = set / 256;
-    out[1] = (a % 256) as u8;
-    let b = a / 256;
-    out[2] = (b % 256) as u8;
-    let c = b / 256;
-    out[3] = (c % 256) as u8;
-    let d = c / 256;
-    out[4] = (d % 256) as u8;
-    let e = d / 256;
-    out[5] = (e % 256) as u8;
-    let f = e / 256;
-    out[6] = (f % 256) as u8;
-    let g = f / 256;
-    out[7] = (g % 256) as u8;
 }

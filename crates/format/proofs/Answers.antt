@@ -11,7 +11,8 @@ use Rattle.format.specs.Bytes.{Bytes, All}
 use Rattle.format.specs.Table.{Table}
 use Rattle.format.specs.Lines.{Lines, good, bad, lines}
 use Rattle.format.specs.Checks.{Check, faultOf, noneCounted, countFrom, check6, check7, check8, check9, Along}
-use Rattle.format.specs.Structure.{Answer, refused, passed, refusal, unless, mostBytes, mostRecords, firstOf, countsOf, ofLines, ofFile, versioned, judged, structure}
+use Rattle.format.specs.Structure.{Answer, refused, passed, refusal, unless, mostBytes, mostRecords}
+use Rattle.format.specs.Structure.{firstOf, countsOf, ofLines, ofFile, versioned, judged, structure}
 use Rattle.format.specs.Numbering.{placed, numbering}
 use Rattle.format.specs.Claims.{Limits, isStructural}
 use Rattle.format.proofs.Logic.{is-true, is-T}

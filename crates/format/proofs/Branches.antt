@@ -9,7 +9,8 @@ use Rattle.format.specs.Doc.{Doc, Group, Transaction, recordsT, transact
 use Rattle.format.specs.Table.{Class, detail, grt, trl, unknown, Table}
 use Rattle.format.specs.WellFormed.{Item, item, itemsT, itemsG, items, WellFormed}
 use Rattle.format.specs.Checks.{cls, cut, check7, AlongFrom, Along}
-use Rattle.format.specs.Tree.{span, after, lastOf, isDetail, isInside, transactionsIn, groupsIn, tree, recordsInT, recordsInG, leaves, cutT, cutG, numberless}
+use Rattle.format.specs.Tree.{span, after, lastOf, isDetail, isInside, transactionsIn, groupsIn}
+use Rattle.format.specs.Tree.{tree, recordsInT, recordsInG, leaves, cutT, cutG, numberless}
 use Rattle.format.specs.Numbering.{held}
 use Rattle.format.specs.Claims.{lengths, Grows}
 use Rattle.format.proofs.Logic.{All-append}
@@ -86,9 +87,15 @@ module _ (𝕋 : Table) where
   transactions-found [] rest h = refl
   transactions-found (x ∷ xs) rest h =
       let (d, k) = after-header x xs rest h in
-      rw (h .0, span-all (isDetail 𝕋) (x .details) (recordsInT xs) (details-are (x .details) d) (header-next xs rest k), no-header (x .details) (recordsInT xs) d, transactions-found xs rest k)
+      rw (
+        h .0,
+        span-all (isDetail 𝕋) (x .details) (recordsInT xs) (details-are (x .details) d) (header-next xs rest k),
+        no-header (x .details) (recordsInT xs) d,
+        transactions-found xs rest k,
+      )
 
-  no-group : (ts : List Transaction) (rest : List Item) (rs : List Bytes) → All Own (itemsT ts ++ rest) → groupsIn 𝕋 (recordsInT ts ++ rs) ≡ groupsIn 𝕋 rs
+  no-group : (ts : List Transaction) (rest : List Item) (rs : List Bytes) → All Own (itemsT ts ++ rest)
+      → groupsIn 𝕋 (recordsInT ts ++ rs) ≡ groupsIn 𝕋 rs
   no-group [] rest rs h = refl
   no-group (x ∷ xs) rest rs h =
       let (d, k) = after-header x xs rest h in
@@ -102,12 +109,23 @@ module _ (𝕋 : Table) where
   groups-found [] z h = rw (h .0)
   groups-found (g ∷ gs) z h =
       let rest = item grt (g .closing) ∷ itemsG gs ++ item trl z ∷ [] in
-      let k : All Own (itemsT (g .transactions) ++ rest) = subst (All Own) (append-assoc (itemsT (g .transactions)) (item grt (g .closing) ∷ itemsG gs) (item trl z ∷ [])) (h .1) in
+      let k : All Own (itemsT (g .transactions) ++ rest) =
+      subst (All Own) (append-assoc (itemsT (g .transactions)) (item grt (g .closing) ∷ itemsG gs) (item trl z ∷ [])) (h .1) in
       let (i, e) = own-inside (g .transactions) rest k in
       let rs = g .closing ∷ recordsInG gs ++ z ∷ [] in
       let stop : isInside 𝕋 (g .closing) ≡ false = rw (e .0) in
       let skip : groupsIn 𝕋 rs ≡ groupsIn 𝕋 (recordsInG gs ++ z ∷ []) = rw (e .0) in
-      rw (h .0, append-assoc (recordsInT (g .transactions)) (g .closing ∷ recordsInG gs) (z ∷ []), span-all (isInside 𝕋) (recordsInT (g .transactions)) rs i stop, after-all (isInside 𝕋) (recordsInT (g .transactions)) rs i stop, transactions-found (g .transactions) rest k, no-group (g .transactions) rest rs k, skip, groups-found gs z (e .1))
+      let own = recordsInT (g .transactions) in
+      rw (
+        h .0,
+        append-assoc own (g .closing ∷ recordsInG gs) (z ∷ []),
+        span-all (isInside 𝕋) own rs i stop,
+        after-all (isInside 𝕋) own rs i stop,
+        transactions-found (g .transactions) rest k,
+        no-group (g .transactions) rest rs k,
+        skip,
+        groups-found gs z (e .1),
+      )
 
   tree-found : (d : Doc) → All Own (items d) → tree 𝕋 (leaves d) ≡ d
   unfolding items leaves tree

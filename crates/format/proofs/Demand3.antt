@@ -15,10 +15,12 @@ use Rattle.format.specs.Structure.{Answer, refused, passed, firstOf, cou
 use Rattle.format.specs.Numbering.{held, number, recordsIn}
 use Rattle.format.specs.Claims.{Limits, Content, lengths, PassesStructure, RefusedOnStructure, Demand3}
 use Rattle.format.proofs.Lines.{lines-unlines, lines-good, pairs-unlines}
-use Rattle.format.proofs.Passes.{Places, counted, loose-held, loose-text, loose-typed, number-loose, number-ok8, number-ok9, records-held, records-numbered, records-places, places-records, records-counted}
+use Rattle.format.proofs.Passes.{Places, counted, loose-held, loose-text, loose-typed, number-loose, number-ok8}
+use Rattle.format.proofs.Passes.{number-ok9, records-held, records-numbered, records-places, places-records, records-counted}
 use Rattle.format.proofs.Tree.{build, build-items, Shaped, places-tree, tree-places, is→eq}
 use Rattle.format.proofs.Written.{counted-items, number-items}
-use Rattle.format.proofs.Answers.{Placed, Accepted, judged-answer, answer-judged, file-judged, file-read, never-both, Structural, structure-structural, structural-limits}
+use Rattle.format.proofs.Answers.{Placed, Accepted, judged-answer, answer-judged, file-judged}
+use Rattle.format.proofs.Answers.{file-read, never-both, Structural, structure-structural, structural-limits}
 
 firstItem : List Item → Bytes
 firstItem [] = []
@@ -151,7 +153,10 @@ module _ (𝕋 : Table) where
   only d e v w q = sym (docOf-write d v) ∙ ap (λ f. docOf (recordsIn (lines f))) q ∙ docOf-write e w
 
   else-refused : (f : Bytes) → Limits f → RefusedOnStructure 𝕋 f ↔ (Content 𝕋 f → ⊥)
-  else-refused f l = (λ (n, i, e, _) c. never-both n i _ _ _ e (content-passes f l c), λ none-such. go none-such (structure 𝕋 f) refl (structure-structural 𝕋 f l))
+  else-refused f l = (
+    λ (n, i, e, _) c. never-both n i _ _ _ e (content-passes f l c),
+    λ none-such. go none-such (structure 𝕋 f) refl (structure-structural 𝕋 f l),
+  )
     where
       go : (Content 𝕋 f → ⊥) → (a : Answer) → structure 𝕋 f ≡ a → Structural a → RefusedOnStructure 𝕋 f
       go none-such (refused n i) e k = (n, i, e, k)

@@ -94,7 +94,8 @@ module _ (𝕋 : Table) where
     judged-near : Near (judged 𝕋 rs)
     unfolding judged
     judged-near =
-        near 6 _ _ (checked (check6 𝕋)) (near 7 _ _ (checked (check7 𝕋)) (near 8 _ _ (checked (check8 𝕋)) (near 9 _ _ (checked (check9 𝕋)) versioned-near)))
+        near 6 _ _ (checked (check6 𝕋))
+        (near 7 _ _ (checked (check7 𝕋)) (near 8 _ _ (checked (check8 𝕋)) (near 9 _ _ (checked (check9 𝕋)) versioned-near)))
 
     placed-near : Near (placed 𝕋 rs)
     unfolding placed

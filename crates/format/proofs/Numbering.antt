@@ -16,7 +16,8 @@ use Rattle.format.proofs.Lines.{lines-good, lines-pairs}
 use Rattle.format.proofs.Passes.{loose-held, same-length, records-loose}
 use Rattle.format.proofs.Answers.{Read, file-judged, file-read, placed-answer, answer-placed}
 use Rattle.format.proofs.Written.{number-items}
-use Rattle.format.proofs.Demand3.{docOf, records-tree, records-wellformed, loose-placed, loose-doc, loose-counted, loose-lines, written-loose, write-lines, write-passes, passes-content, passes-limits, content-passes}
+use Rattle.format.proofs.Demand3.{docOf, records-tree, records-wellformed, loose-placed, loose-doc, loose-counted, loose-lines}
+use Rattle.format.proofs.Demand3.{written-loose, write-lines, write-passes, passes-content, passes-limits, content-passes}
 
 module _ (𝕋 : Table) where
   -- ---- a file that has some content

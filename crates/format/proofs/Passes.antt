@@ -10,10 +10,12 @@ use lib.Dec.{T}
 use Rattle.format.specs.Bytes.{Bytes, All, Text, inserted, unlines}
 use Rattle.format.specs.Table.{Class, trl, at, width, Table}
 use Rattle.format.specs.WellFormed.{Item, item, Right, Held, Loose}
-use Rattle.format.specs.Checks.{Check, faultFrom, Along, AlongFrom, Counts, count, expected, is, mayFollow, closes, slot, cls, typed, rightlyNumbered, check6, check7, check8, check9, ok8, ok9, counting, countFrom}
+use Rattle.format.specs.Checks.{Check, faultFrom, Along, AlongFrom, Counts, count, expected, is, mayFollow, closes, slot}
+use Rattle.format.specs.Checks.{cls, typed, rightlyNumbered, check6, check7, check8, check9, ok8, ok9, counting, countFrom}
 use Rattle.format.specs.Numbering.{held, number}
 use Rattle.format.proofs.Logic.{or-right, either-way, sameBytes→eq, sameBytes-refl}
-use Rattle.format.proofs.Slots.{expected-length, expected-text, put-cls, put-slot, put-held, put-length, put-typed, put-text, held-right, slot-text, slot-length, slot-put}
+use Rattle.format.proofs.Slots.{expected-length, expected-text, put-cls, put-slot, put-held, put-length}
+use Rattle.format.proofs.Slots.{put-typed, put-text, held-right, slot-text, slot-length, slot-put}
 
 -- ---- a check finds no fault exactly where no record fails
 

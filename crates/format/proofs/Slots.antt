@@ -45,7 +45,8 @@ module _ (a : ℕ) (x s : Bytes) (h : a ≤ length s) where
 refill : (a w : ℕ) (r : Bytes) → a + w ≤ length r → inserted a (take w (drop a r)) (take a r ++ drop (a + w) r) ≡ r
 unfolding inserted
 refill a w r h =
-    rw (take-at (take a r) (drop (a + w) r) a (length-take-le a r (omega arith)), drop-at (take a r) (drop (a + w) r) a (length-take-le a r (omega arith)), ← take-add a w r, take-append-drop)
+    let first = length-take-le a r (omega arith) in
+    rw (take-at (take a r) (drop (a + w) r) a first, drop-at (take a r) (drop (a + w) r) a first, ← take-add a w r, take-append-drop)
 
 -- numbers put into a record whose own were cut out: the record with its number positions overwritten
 pub overwritten : (a w : ℕ) (x r : Bytes) → a ≤ length r → inserted a x (take a r ++ drop (a + w) r) ≡ take a r ++ x ++ drop (a + w) r
@@ -148,7 +149,10 @@ module _ (𝕋 : Table) where
     pub held-right : Held 𝕋 (held 𝕋 r)
     held-right =
         record {
-          text = text-append (take (at (cls 𝕋 r)) r) (drop (at (cls 𝕋 r) + width (cls 𝕋 r)) r) (All-take (λ b. T (isText b)) (at (cls 𝕋 r)) r h) (All-drop (λ b. T (isText b)) (at (cls 𝕋 r) + width (cls 𝕋 r)) r h);
+          text =
+              let a = at (cls 𝕋 r) in
+              let e = a + width (cls 𝕋 r) in
+              text-append (take a r) (drop e r) (All-take (λ b. T (isText b)) a r h) (All-drop (λ b. T (isText b)) e r h);
           type = ap (𝕋 .class) same;
           type-known = left (known (cls 𝕋 r)) (eqb (length r) (𝕋 .len (take 3 r))) t;
           size = rw (same, ← long, length-append, length-take-le (at (cls 𝕋 r)) r (omega (arith, whole)), length-drop) (omega (arith, whole));

@@ -56,7 +56,8 @@ back-groups [] z = refl
 back-groups (g ∷ gs) z =
     ap (λ l. onto grh (g .opening) (back l)) (append-assoc (itemsT (g .transactions)) (item grt (g .closing) ∷ itemsG gs) (item trl z ∷ []))
     ∙ ap (onto grh (g .opening))
-    (back-transactions (g .closing) gs z (item grt (g .closing) ∷ (itemsG gs ++ item trl z ∷ [])) (g .transactions) (ap (onto grt (g .closing)) (back-groups gs z)))
+    (back-transactions (g .closing) gs z (item grt (g .closing) ∷ (itemsG gs ++ item trl z ∷ [])) (g .transactions)
+    (ap (onto grt (g .closing)) (back-groups gs z)))
 
 pub build-items : (d : Doc) → build (items d) ≡ d
 unfolding items
@@ -189,9 +190,11 @@ places-opened (x ∷ xs) ss n h = places-header grh tt x xs ss (places-transacti
 
 -- after any record that a GRH may follow
 module _ (p : Class) (a : T (mayFollow p grh)) where
-  places-group : (g : Group) (gs : List Group) (ss : List Item) → NotEmpty (g .transactions) → Places grt (itemsG gs ++ ss) → Places p (itemsG (g ∷ gs) ++ ss)
+  places-group : (g : Group) (gs : List Group) (ss : List Item) → NotEmpty (g .transactions) → Places grt (itemsG gs ++ ss)
+      → Places p (itemsG (g ∷ gs) ++ ss)
   places-group g gs ss n h =
-      (a, rw (append-assoc (itemsT (g .transactions)) (item grt (g .closing) ∷ itemsG gs) ss) (places-opened (g .transactions) (item grt (g .closing) ∷ (itemsG gs ++ ss)) n (tt, h)))
+      let closed = item grt (g .closing) in
+      (a, rw (append-assoc (itemsT (g .transactions)) (closed ∷ itemsG gs) ss) (places-opened (g .transactions) (closed ∷ (itemsG gs ++ ss)) n (tt, h)))
 
 places-groups : (gs : List Group) (z : Bytes) → FullG gs → Places grt (itemsG gs ++ item trl z ∷ [])
 places-groups [] z f = (tt, tt)

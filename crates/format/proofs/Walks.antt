@@ -5,7 +5,7 @@ use mathlib.Core.Bool.{Bool, true, false}
 use mathlib.Core.List.{List, [], _∷_, _++_}
 use Rattle.format.specs.Bytes.{Bytes}
 use Rattle.format.specs.Table.{head, detail, Table}
-use Rattle.format.specs.Checks.{is, cls}
+use Rattle.format.specs.Checks.{cls}
 use Rattle.format.specs.Structure.{firstOf}
 use Rattle.format.specs.Tree.{span, after, isGRH, isHead, isDetail, isInside, transactionsIn, groupsIn}
 use Rattle.format.proofs.Logic.{is-T}
@@ -50,11 +50,13 @@ module _ (𝕋 : Table) where
   skip-details (r ∷ rs) qs = by-cases (isDetail 𝕋 r) (λ e. rw (e, detail-no-header r e) (skip-details rs qs)) (λ e. rw e)
 
   pub transaction-first : (r : Bytes) (rs : List Bytes) → isHead 𝕋 r ≡ true
-      → transactionsIn 𝕋 (span (isInside 𝕋) (r ∷ rs)) ≡ record { header = r; details = span (isDetail 𝕋) rs } ∷ transactionsIn 𝕋 (span (isInside 𝕋) (after (isDetail 𝕋) rs))
+      → transactionsIn 𝕋 (span (isInside 𝕋) (r ∷ rs))
+      ≡ record { header = r; details = span (isDetail 𝕋) rs } ∷ transactionsIn 𝕋 (span (isInside 𝕋) (after (isDetail 𝕋) rs))
   transaction-first r rs e =
       rw (header-inside r e, e, span-within (isDetail 𝕋) (isInside 𝕋) detail-inside rs)
       (ap (λ l. record { header = r; details = span (isDetail 𝕋) rs } ∷ l)
-      (ap (transactionsIn 𝕋) (span-on (isDetail 𝕋) (isInside 𝕋) detail-inside rs) ∙ skip-details rs (span (isInside 𝕋) (after (isDetail 𝕋) rs))))
+      (ap (transactionsIn 𝕋) (span-on (isDetail 𝕋) (isInside 𝕋) detail-inside rs)
+      ∙ skip-details rs (span (isInside 𝕋) (after (isDetail 𝕋) rs))))
 
   pub transactions-none : (r : Bytes) (rs : List Bytes) → isInside 𝕋 r ≡ false → transactionsIn 𝕋 (span (isInside 𝕋) (r ∷ rs)) ≡ []
   transactions-none r rs e = rw e
@@ -70,9 +72,13 @@ module _ (𝕋 : Table) where
   skip-inside (r ∷ rs) = by-cases (isInside 𝕋 r) (λ e. rw (inside-no-group r e, e) (skip-inside rs)) (λ e. rw e)
 
   pub group-first : (r : Bytes) (rs : List Bytes) → isGRH 𝕋 r ≡ true
-      → groupsIn 𝕋 (r ∷ rs) ≡ record { opening = r; transactions = transactionsIn 𝕋 (span (isInside 𝕋) rs); closing = firstOf (after (isInside 𝕋) rs) } ∷ groupsIn 𝕋 (after (isInside 𝕋) rs)
+      → groupsIn 𝕋 (r ∷ rs)
+      ≡ record { opening = r; transactions = transactionsIn 𝕋 (span (isInside 𝕋) rs); closing = firstOf (after (isInside 𝕋) rs) }
+      ∷ groupsIn 𝕋 (after (isInside 𝕋) rs)
   group-first r rs e =
-      rw e (ap (λ l. record { opening = r; transactions = transactionsIn 𝕋 (span (isInside 𝕋) rs); closing = firstOf (after (isInside 𝕋) rs) } ∷ l) (skip-inside rs))
+      rw e
+      (ap (λ l. record { opening = r; transactions = transactionsIn 𝕋 (span (isInside 𝕋) rs); closing = firstOf (after (isInside 𝕋) rs) } ∷ l)
+      (skip-inside rs))
 
   pub groups-skip : (r : Bytes) (rs : List Bytes) → isGRH 𝕋 r ≡ false → groupsIn 𝕋 (r ∷ rs) ≡ groupsIn 𝕋 rs
   groups-skip r rs e = rw e

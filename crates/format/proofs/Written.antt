@@ -6,7 +6,8 @@ use mathlib.Core.Path.{_≡_, refl, ap, _∙_}
 use mathlib.Core.List.{List, [], _∷_, _++_, map}
 use lib.ListN.{length}
 use Rattle.format.specs.Bytes.{Bytes, put}
-use Rattle.format.specs.Doc.{Doc, Group, Transaction, recordsT, transactionsOf, recordsOf, prefixed, writtenDetails, writtenTransactions, opened, closed, writtenGroups, written}
+use Rattle.format.specs.Doc.{Doc, Group, Transaction, recordsT, transactionsOf, recordsOf, prefixed}
+use Rattle.format.specs.Doc.{writtenDetails, writtenTransactions, opened, closed, writtenGroups, written}
 use Rattle.format.specs.Table.{detail, grt, trl, start}
 use Rattle.format.specs.WellFormed.{Item, item, itemsT, itemsG, items}
 use Rattle.format.specs.Checks.{Counts, noneCounted, count, expected}
@@ -20,7 +21,8 @@ use Rattle.format.proofs.Passes.{counted}
 abbrev pub counts : ℕ → ℕ → ℕ → ℕ → ℕ → ℕ → Counts
 counts g j k n m r = record { groups = g; transactions = m; inGroup = j; groupRecords = n; inTransaction = k; records = r }
 
-counts-path : {g j k n m r g′ j′ k′ n′ m′ r′ : ℕ} → g ≡ g′ → j ≡ j′ → k ≡ k′ → n ≡ n′ → m ≡ m′ → r ≡ r′ → counts g j k n m r ≡ counts g′ j′ k′ n′ m′ r′
+counts-path : {g j k n m r g′ j′ k′ n′ m′ r′ : ℕ} → g ≡ g′ → j ≡ j′ → k ≡ k′ → n ≡ n′ → m ≡ m′ → r ≡ r′
+    → counts g j k n m r ≡ counts g′ j′ k′ n′ m′ r′
 counts-path a b c d e f = rw (a, b, c, d, e, f)
 
 -- ---- counting
@@ -51,7 +53,8 @@ counted-transactions g j k n m r (x ∷ xs) =
 
 -- what is left of the last group's own counts does not matter: GRH begins them anew
 counted-groups : (g j k n m r : ℕ) (gs : List Group)
-    → (j′ : ℕ) × (k′ : ℕ) × (n′ : ℕ) × (counted (counts g j k n m r) (itemsG gs) ≡ counts (g + length gs) j′ k′ n′ (m + transactionsOf gs) (r + recordsOf gs))
+    → (j′ : ℕ) × (k′ : ℕ) × (n′ : ℕ)
+    × (counted (counts g j k n m r) (itemsG gs) ≡ counts (g + length gs) j′ k′ n′ (m + transactionsOf gs) (r + recordsOf gs))
 counted-groups g j k n m r [] = (j, k, n, simp add-zero)
 counted-groups g j k n m r (x ∷ xs) =
     let ts = x .transactions in
@@ -94,7 +97,8 @@ number-transactions g j k n m r (x ∷ xs) =
     ap (λ l. prefixed j 0 (x .header) ∷ l)
     (number-append (counts g (suc j) 1 (suc n) (suc m) (suc r)) (map (item detail) (x .details)) (itemsT xs)
     ∙ rw (number-details g j 1 (suc n) (suc m) (suc r) (x .details), counted-details g (suc j) 1 (suc n) (suc m) (suc r) (x .details))
-    (ap (λ l. writtenDetails j 1 (x .details) ++ l) (number-transactions g (suc j) (1 + length (x .details)) (suc n + length (x .details)) (suc m) (suc r + length (x .details)) xs)))
+    (ap (λ l. writtenDetails j 1 (x .details) ++ l)
+    (number-transactions g (suc j) (1 + length (x .details)) (suc n + length (x .details)) (suc m) (suc r + length (x .details)) xs)))
 
 number-groups : (g j k n m r : ℕ) (gs : List Group) → number (counts g j k n m r) (itemsG gs) ≡ writtenGroups (suc g) gs
 number-groups g j k n m r [] = refl

@@ -10,12 +10,12 @@ ghost use lib.ListN.{length, replicate};
 ghost use Rattle.format.specs.Bytes.{Bytes};
 ghost use Rattle.rules.specs.Tables.{Tables};
 ghost use Rattle.rules.specs.Values.{largestTolerance};
-ghost use Rattle.rules.specs.Writers.{versionType, is4, is5, is6, is7, is10};
+ghost use Rattle.rules.specs.Writers.{versionType, relationship, is4, is5, is6, is7, is10};
 ghost use Rattle.rules.specs.Works.{is0, is9, is15};
 ghost use Rattle.rules.specs.Findings.{setOf, worst};
 ghost use Rattle.totals.specs.Sums.{Below};
 ghost use Rattle.tally.specs.Marked.{Marked};
-ghost use Rattle.edits.specs.Kinds.{Header};
+ghost use Rattle.edits.specs.Kinds.{HeaderRecord};
 ghost use Rattle.edits.specs.Judged.{Judged};
 ghost use Rattle.tally.specs.Known.{Known};
 ghost use Rattle.headers.specs.Headed.{Linked, Gathered, Headed};
@@ -38,7 +38,7 @@ pub struct Head {
 
 // The header's type is not the one that GRH names.
 fn found_0(header: &[u8], named: &[u8]) -> bool
-    requires { ⌜ Header (now header) ⌝ }
+    requires { ⌜ HeaderRecord (now header) ⌝ }
     ensures { λ r. ⌜ r ≡ is0 (now (named .entry)) (now (header .entry)) ⌝ }
 {
     !text::is_three(named, header[0], header[1], header[2])
@@ -59,15 +59,23 @@ fn found_5(marks: Marks) -> bool
 }
 
 fn version_type(header: &[u8]) -> &[u8]
-    requires { ⌜ Header (now header) ⌝ }
+    requires { ⌜ HeaderRecord (now header) ⌝ }
     ensures { λ r. ⌜ now r ≡ versionType (now (header .entry)) ⌝ }
 {
     text::field(header, 143, 3)
 }
 
+// Of text and music.
+fn relationship(header: &[u8]) -> &[u8]
+    requires { ⌜ HeaderRecord (now header) ⌝ }
+    ensures { λ r. ⌜ now r ≡ relationship (now (header .entry)) ⌝ }
+{
+    text::field(header, 137, 3)
+}
+
 // A modified version, and no writer that changes a work.
 fn found_6(header: &[u8], marks: Marks) -> bool
-    requires { ⌜ Header (now header) ⌝ }
+    requires { ⌜ HeaderRecord (now header) ⌝ }
     ensures { λ r. ⌜ ((ds : List Bytes) → Marked marks ds → r ≡ is6 (now (header .entry)) ds) ⌝ }
 {
     text::is_three(version_type(header), b'M', b'O', b'D') & !marks.changer
@@ -75,7 +83,7 @@ fn found_6(header: &[u8], marks: Marks) -> bool
 
 // An original work, and such a writer.
 fn found_7(header: &[u8], marks: Marks) -> bool
-    requires { ⌜ Header (now header) ⌝ }
+    requires { ⌜ HeaderRecord (now header) ⌝ }
     ensures { λ r. ⌜ ((ds : List Bytes) → Marked marks ds → r ≡ is7 (now (header .entry)) ds) ⌝ }
 {
     text::is_three(version_type(header), b'O', b'R', b'I') & marks.changer
@@ -83,18 +91,18 @@ fn found_7(header: &[u8], marks: Marks) -> bool
 
 // Category SER, and neither INS nor IND.
 fn found_9(header: &[u8], marks: Marks) -> bool
-    requires { ⌜ Header (now header) ⌝ }
+    requires { ⌜ HeaderRecord (now header) ⌝ }
     ensures { λ r. ⌜ ((ds : List Bytes) → Marked marks ds → r ≡ is9 (now (header .entry)) ds) ⌝ }
 {
-    text::is_three(text::field(header, 127, 3), b'S', b'E', b'R') & !marks.instrument
+    edits::header::is_serious(header) & !marks.instrument
 }
 
 // Music alone by the relationship of text and music, and a writer of text.
 fn found_10(header: &[u8], marks: Marks) -> bool
-    requires { ⌜ Header (now header) ⌝ }
+    requires { ⌜ HeaderRecord (now header) ⌝ }
     ensures { λ r. ⌜ ((ds : List Bytes) → Marked marks ds → r ≡ is10 (now (header .entry)) ds) ⌝ }
 {
-    text::is_three(text::field(header, 137, 3), b'M', b'U', b'S') & marks.author
+    text::is_three(relationship(header), b'M', b'U', b'S') & marks.author
 }
 
 // More than one EWT, or more than one VER.
@@ -113,11 +121,11 @@ fn join(stray: bool, works: Found, own: Found) -> Head
         → own .set ≡ setOf (replicate 16 false ++ rest) → own .level ≡ worst (replicate 16 false ++ rest)
         → Gathered (stray ∷ fifteen ++ rest) stray h) ⌝ }
 {
-    let set = findings::bit(stray) + works.set + 65536 * (own.set / 65536);
+    let set = either::bit(stray) + works.set + 65536 * (own.set / 65536);
     let level = findings::larger(works.level, own.level);
     Head {
         set: set,
-        level: edits::pick(stray, findings::GR, level),
+        level: either::byte(stray, findings::GR, level),
         rejects: (works.level == findings::TR) | (own.level == findings::TR),
         stray: stray,
     }
@@ -126,10 +134,11 @@ fn join(stray: bool, works: Found, own: Found) -> Head
 // What a header has, where y knows the details and links their chains, and own is what the header's own fields have. named is the type that
 // GRH names, and t the tolerance.
 pub fn judge(header: &[u8], named: &[u8], own: Found, y: Tally, links: Links, t: u64) -> Head
-    requires { ⌜ Header (now header) ⌝ }
+    requires { ⌜ HeaderRecord (now header) ⌝ }
     requires { ⌜ t ≤ largestTolerance ⌝ }
     requires { ⌜ Below (2 ^ 60) (y .totals) ⌝ }
-    ensures { λ h. ⌜ ((tables : Tables) (ds : List Bytes) → Known y ds → Linked links ds → Judged tables [] (now (header .entry)) own → Headed tables t (now (named .entry)) (record { header = now (header .entry); details = ds }) h) ⌝ }
+    ensures { λ h. ⌜ ((tables : Tables) (ds : List Bytes) → Known y ds → Linked links ds → Judged tables [] (now (header .entry)) own
+        → Headed tables t (now (named .entry)) (record { header = now (header .entry); details = ds }) h) ⌝ }
 {
     let totals = y.totals;
     let order = y.order;

@@ -51,7 +51,8 @@ module _ (type : Bytes) (d : Row) where
   has-at (r ∷ l) zero h e = rw e
   has-at (r ∷ l) (suc k) h e = rw (has-at l k (le-of-suc-le-suc h) e, or-true (sameBytes (typeOf r) type))
 
-  pub only : (l : List Row) → distinct l ≡ true → (k : ℕ) → k < length l → sameBytes (typeOf (getD l k d)) type ≡ true → getD l k d ≡ firstOf l type
+  pub only : (l : List Row) → distinct l ≡ true → (k : ℕ) → k < length l → sameBytes (typeOf (getD l k d)) type ≡ true
+      → getD l k d ≡ firstOf l type
   unfolding has distinct
   only [] q k h e = absurd (not-suc-le-zero h)
   only (r ∷ l) q zero h e = rw e

@@ -1,4 +1,4 @@
--- The row of a type: it is the first of the code's rows, and says the place, the length and the spots that the format has for the type.
+-- The row of a type: it is the first of the code's rows, and says the class, the length and the spots that the format has for the type.
 -- Assumes nothing.
 use Prim.Native.Nat.{ℕ, zero, suc, _+_, _<_, _≤_}
 use native.Mathlib.Omega.{arith}
@@ -68,17 +68,17 @@ module _ (l : List Row) (table : l ≡ kinds) (type : Bytes) where
 pub short-row : (r : Bytes) → length r < 3 → noRow ≡ rowFor (take 3 r)
 short-row r h = sym (short kinds (take 3 r) (rw length-take (omega arith))) ∙ first-row (take 3 r)
 
--- ---- place and length
+-- ---- class and length
 
-code-place : (f : FormatRow) → codeRow f .place ≡ code (classOf f)
-code-place (row type n c) = refl
+code-class : (f : FormatRow) → codeRow f .class ≡ code (classOf f)
+code-class (row type n c) = refl
 
 code-length : (f : FormatRow) → codeRow f .length ≡ lenOf f
 code-length (row type n c) = refl
 
-pub place-class : (r : Bytes) → rowFor (take 3 r) .place ≡ code (cls cwr22 r)
+pub class-is : (r : Bytes) → rowFor (take 3 r) .class ≡ code (cls cwr22 r)
 unfolding rowFor rows22
-place-class r = code-place (rowOf rows22 (take 3 r))
+class-is r = code-class (rowOf rows22 (take 3 r))
 
 pub length-len : (r : Bytes) → rowFor (take 3 r) .length ≡ cwr22 .len (take 3 r)
 unfolding rowFor rows22
@@ -95,7 +95,8 @@ unfolding rows22 fits sameSpots spots begins stages sortOf
 all-fit = refl
 
 -- the row found for t is that of no type, or is of the type t and passes each test that all rows pass
-module _ (C : FormatRow → Type 0) (p : FormatRow → Bool) (type : Bytes) (found : (n : ℕ) (c : Class) → p (row type n c) ≡ true → C (row type n c)) where
+module _ (C : FormatRow → Type 0) (p : FormatRow → Bool) (type : Bytes)
+    (found : (n : ℕ) (c : Class) → p (row type n c) ≡ true → C (row type n c)) where
   pub row-cases : (fs : List FormatRow) → every p fs ≡ true → (rowOf fs type ≡ noType → C (noType)) → C (rowOf fs type)
   row-cases [] q none = none refl
   row-cases (row u n c ∷ fs) q none =
@@ -120,7 +121,8 @@ abbrev pub inClass : Class → (FormatRow → Bool) → FormatRow → Bool
 inClass k p f = not (is k (classOf f)) || p f
 
 -- what follows from the test holds of the row of each record of the class
-pub of-class : (k : Class) (p : FormatRow → Bool) → every (inClass k p) rows22 ≡ true → is k unknown ≡ false → (C : FormatRow → Type 0) (r : Bytes)
+pub of-class : (k : Class) (p : FormatRow → Bool) → every (inClass k p) rows22 ≡ true → is k unknown ≡ false
+    → (C : FormatRow → Type 0) (r : Bytes)
     → cls cwr22 r ≡ k → ((n : ℕ) → p (row (take 3 r) n k) ≡ true → C (row (take 3 r) n k)) → C (rowOf rows22 (take 3 r))
 unfolding rows22
 of-class k p all named C r h found =

@@ -48,7 +48,7 @@ codeRow (row type n c) =
       a = getD type 0 0;
       b = getD type 1 0;
       c = getD type 2 0;
-      place = code c;
+      class = code c;
       length = n;
       first = spotAt 0 type .stage;
       second = spotAt 1 type .stage;
@@ -71,7 +71,7 @@ abbrev pub typeOf : Row → Bytes
 typeOf r = r .a ∷ r .b ∷ r .c ∷ []
 
 abbrev pub noRow : Row
-noRow = record { a = 0; b = 0; c = 0; place = code unknown; length = 0; first = 0; second = 0; third = 0; rank = 0; alone = false; sort = 0 }
+noRow = record { a = 0; b = 0; c = 0; class = code unknown; length = 0; first = 0; second = 0; third = 0; rank = 0; alone = false; sort = 0 }
 
 abbrev pub firstOf : List Row → Bytes → Row
 firstOf [] type = noRow
@@ -86,4 +86,4 @@ abbrev pub spotsOf : Row → List Spot
 spotsOf r = column (r .first) (r .rank) (column (r .second) (r .rank) (column (r .third) (r .rank) []))
 
 abbrev pub shapeOf : Row → Shape
-shapeOf r = record { place = r .place; length = r .length }
+shapeOf r = record { class = r .class; length = r .length }

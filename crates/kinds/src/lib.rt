@@ -14,8 +14,8 @@ pub struct Row {
     pub a: u8,
     pub b: u8,
     pub c: u8,
-    // Where its records stand: HDR to UNKNOWN, below.
-    pub place: u8,
+    // Its class, which says where its records stand: HDR to UNKNOWN, below.
+    pub class: u8,
     // How many bytes a record has.
     pub length: u16,
     // The stages in which it has a spot, in sequence and counted from 1; 0 for none.
@@ -41,7 +41,7 @@ impl Row {
         ensures { λ r. ⌜ r ≡ shapeOf self ⌝ }
     {
         Shape {
-            place: self.place,
+            class: self.class,
             length: self.length,
         }
     }
@@ -49,7 +49,7 @@ impl Row {
 
 // Of a row what a walk goes by.
 pub struct Shape {
-    pub place: u8,
+    pub class: u8,
     pub length: u16,
 }
 
@@ -61,7 +61,7 @@ impl Shape {
     }
 }
 
-// The places, numbered as by the format's `code`.
+// The classes, numbered as by the format's `code`.
 pub const HDR: u8 = 0;
 
 pub const GRH: u8 = 1;
@@ -102,6 +102,15 @@ pub const INSTRUMENT: u8 = 8;
 // TER, IPA, NPA, MSG.
 pub const MISPLACED: u8 = 9;
 
+// How many bytes a record has that opens or closes a file or a group, and a header.
+pub const HDR_LENGTH: u16 = 167;
+
+pub const GRH_LENGTH: u16 = 28;
+
+pub const GRT_LENGTH: u16 = 37;
+
+pub const HEADER_LENGTH: u16 = 260;
+
 // The table. No other function names ROWS: each that does builds it on its stack, and takes seconds to check. A walk over records
 // calls this once, before its loop.
 pub fn table() -> [Row; 38]
@@ -110,18 +119,12 @@ pub fn table() -> [Row; 38]
     ROWS
 }
 
-fn wide(b: u8) -> usize
-    ensures { λ r. ⌜ r < 256 ⌝ }
-{
-    b as usize
-}
-
 // Where the row of a type may stand. Only the bound is promised: whoever asks compares the row's type. An arm's number is the type's
 // bytes, in hexadecimal.
 pub fn hint(a: u8, b: u8, c: u8) -> usize
     ensures { λ r. ⌜ r < 38 ⌝ }
 {
-    match wide(a) * 65536 + wide(b) * 256 + wide(c) {
+    match text::wide(a) * 65536 + text::wide(b) * 256 + text::wide(c) {
         0x484452 => 0, // HDR
         0x475248 => 1, // GRH
         0x475254 => 2, // GRT
@@ -179,7 +182,7 @@ fn no_row() -> Row
         a: 0,
         b: 0,
         c: 0,
-        place: UNKNOWN,
+        class: UNKNOWN,
         length: 0,
         first: 0,
         second: 0,
@@ -243,7 +246,7 @@ pub fn confirmed(hinted: Row, record: &[u8]) -> Shape
     row_of(record).shape()
 }
 
-// The row itself, for a walk that judges a record by more than its place and length.
+// The row itself, for a walk that judges a record by more than its class and length.
 pub fn confirmed_row(hinted: Row, record: &[u8]) -> Row
     requires { ⌜ 3 ≤ length (now «record») ⌝ }
     requires { ⌜ ((type : Bytes) → sameBytes (typeOf hinted) type ≡ true → hinted ≡ rowFor type) ⌝ }
@@ -262,8 +265,8 @@ pub const ROWS: [Row; 38] = [
         a: b'H',
         b: b'D',
         c: b'R',
-        place: HDR,
-        length: 167,
+        class: HDR,
+        length: HDR_LENGTH,
         first: 0,
         second: 0,
         third: 0,
@@ -275,8 +278,8 @@ pub const ROWS: [Row; 38] = [
         a: b'G',
         b: b'R',
         c: b'H',
-        place: GRH,
-        length: 28,
+        class: GRH,
+        length: GRH_LENGTH,
         first: 0,
         second: 0,
         third: 0,
@@ -288,8 +291,8 @@ pub const ROWS: [Row; 38] = [
         a: b'G',
         b: b'R',
         c: b'T',
-        place: GRT,
-        length: 37,
+        class: GRT,
+        length: GRT_LENGTH,
         first: 0,
         second: 0,
         third: 0,
@@ -301,7 +304,7 @@ pub const ROWS: [Row; 38] = [
         a: b'T',
         b: b'R',
         c: b'L',
-        place: TRL,
+        class: TRL,
         length: 24,
         first: 0,
         second: 0,
@@ -314,8 +317,8 @@ pub const ROWS: [Row; 38] = [
         a: b'N',
         b: b'W',
         c: b'R',
-        place: HEAD,
-        length: 260,
+        class: HEAD,
+        length: HEADER_LENGTH,
         first: 0,
         second: 0,
         third: 0,
@@ -327,8 +330,8 @@ pub const ROWS: [Row; 38] = [
         a: b'R',
         b: b'E',
         c: b'V',
-        place: HEAD,
-        length: 260,
+        class: HEAD,
+        length: HEADER_LENGTH,
         first: 0,
         second: 0,
         third: 0,
@@ -340,7 +343,7 @@ pub const ROWS: [Row; 38] = [
         a: b'T',
         b: b'E',
         c: b'R',
-        place: DETAIL,
+        class: DETAIL,
         length: 24,
         first: 0,
         second: 0,
@@ -353,7 +356,7 @@ pub const ROWS: [Row; 38] = [
         a: b'I',
         b: b'P',
         c: b'A',
-        place: DETAIL,
+        class: DETAIL,
         length: 153,
         first: 0,
         second: 0,
@@ -366,7 +369,7 @@ pub const ROWS: [Row; 38] = [
         a: b'N',
         b: b'P',
         c: b'A',
-        place: DETAIL,
+        class: DETAIL,
         length: 350,
         first: 0,
         second: 0,
@@ -379,7 +382,7 @@ pub const ROWS: [Row; 38] = [
         a: b'S',
         b: b'P',
         c: b'U',
-        place: DETAIL,
+        class: DETAIL,
         length: 183,
         first: 1,
         second: 0,
@@ -392,7 +395,7 @@ pub const ROWS: [Row; 38] = [
         a: b'O',
         b: b'P',
         c: b'U',
-        place: DETAIL,
+        class: DETAIL,
         length: 183,
         first: 2,
         second: 0,
@@ -405,7 +408,7 @@ pub const ROWS: [Row; 38] = [
         a: b'N',
         b: b'P',
         c: b'N',
-        place: DETAIL,
+        class: DETAIL,
         length: 512,
         first: 1,
         second: 2,
@@ -418,7 +421,7 @@ pub const ROWS: [Row; 38] = [
         a: b'S',
         b: b'P',
         c: b'T',
-        place: DETAIL,
+        class: DETAIL,
         length: 58,
         first: 1,
         second: 0,
@@ -431,7 +434,7 @@ pub const ROWS: [Row; 38] = [
         a: b'O',
         b: b'P',
         c: b'T',
-        place: DETAIL,
+        class: DETAIL,
         length: 58,
         first: 1,
         second: 2,
@@ -444,7 +447,7 @@ pub const ROWS: [Row; 38] = [
         a: b'S',
         b: b'W',
         c: b'R',
-        place: DETAIL,
+        class: DETAIL,
         length: 180,
         first: 3,
         second: 0,
@@ -457,7 +460,7 @@ pub const ROWS: [Row; 38] = [
         a: b'O',
         b: b'W',
         c: b'R',
-        place: DETAIL,
+        class: DETAIL,
         length: 180,
         first: 4,
         second: 0,
@@ -470,7 +473,7 @@ pub const ROWS: [Row; 38] = [
         a: b'N',
         b: b'W',
         c: b'N',
-        place: DETAIL,
+        class: DETAIL,
         length: 350,
         first: 3,
         second: 4,
@@ -483,7 +486,7 @@ pub const ROWS: [Row; 38] = [
         a: b'S',
         b: b'W',
         c: b'T',
-        place: DETAIL,
+        class: DETAIL,
         length: 52,
         first: 3,
         second: 0,
@@ -496,7 +499,7 @@ pub const ROWS: [Row; 38] = [
         a: b'O',
         b: b'W',
         c: b'T',
-        place: DETAIL,
+        class: DETAIL,
         length: 52,
         first: 4,
         second: 0,
@@ -509,7 +512,7 @@ pub const ROWS: [Row; 38] = [
         a: b'P',
         b: b'W',
         c: b'R',
-        place: DETAIL,
+        class: DETAIL,
         length: 112,
         first: 3,
         second: 4,
@@ -522,7 +525,7 @@ pub const ROWS: [Row; 38] = [
         a: b'A',
         b: b'L',
         c: b'T',
-        place: DETAIL,
+        class: DETAIL,
         length: 83,
         first: 5,
         second: 0,
@@ -535,7 +538,7 @@ pub const ROWS: [Row; 38] = [
         a: b'N',
         b: b'A',
         c: b'T',
-        place: DETAIL,
+        class: DETAIL,
         length: 663,
         first: 6,
         second: 0,
@@ -548,7 +551,7 @@ pub const ROWS: [Row; 38] = [
         a: b'E',
         b: b'W',
         c: b'T',
-        place: DETAIL,
+        class: DETAIL,
         length: 364,
         first: 7,
         second: 0,
@@ -561,7 +564,7 @@ pub const ROWS: [Row; 38] = [
         a: b'V',
         b: b'E',
         c: b'R',
-        place: DETAIL,
+        class: DETAIL,
         length: 364,
         first: 8,
         second: 0,
@@ -574,7 +577,7 @@ pub const ROWS: [Row; 38] = [
         a: b'P',
         b: b'E',
         c: b'R',
-        place: DETAIL,
+        class: DETAIL,
         length: 118,
         first: 9,
         second: 0,
@@ -587,7 +590,7 @@ pub const ROWS: [Row; 38] = [
         a: b'N',
         b: b'P',
         c: b'R',
-        place: DETAIL,
+        class: DETAIL,
         length: 370,
         first: 9,
         second: 0,
@@ -600,7 +603,7 @@ pub const ROWS: [Row; 38] = [
         a: b'R',
         b: b'E',
         c: b'C',
-        place: DETAIL,
+        class: DETAIL,
         length: 540,
         first: 10,
         second: 0,
@@ -613,7 +616,7 @@ pub const ROWS: [Row; 38] = [
         a: b'O',
         b: b'R',
         c: b'N',
-        place: DETAIL,
+        class: DETAIL,
         length: 348,
         first: 11,
         second: 0,
@@ -626,7 +629,7 @@ pub const ROWS: [Row; 38] = [
         a: b'I',
         b: b'N',
         c: b'S',
-        place: DETAIL,
+        class: DETAIL,
         length: 75,
         first: 12,
         second: 0,
@@ -639,7 +642,7 @@ pub const ROWS: [Row; 38] = [
         a: b'I',
         b: b'N',
         c: b'D',
-        place: DETAIL,
+        class: DETAIL,
         length: 25,
         first: 12,
         second: 0,
@@ -652,7 +655,7 @@ pub const ROWS: [Row; 38] = [
         a: b'C',
         b: b'O',
         c: b'M',
-        place: DETAIL,
+        class: DETAIL,
         length: 308,
         first: 13,
         second: 0,
@@ -665,7 +668,7 @@ pub const ROWS: [Row; 38] = [
         a: b'M',
         b: b'S',
         c: b'G',
-        place: DETAIL,
+        class: DETAIL,
         length: 185,
         first: 0,
         second: 0,
@@ -678,7 +681,7 @@ pub const ROWS: [Row; 38] = [
         a: b'N',
         b: b'E',
         c: b'T',
-        place: DETAIL,
+        class: DETAIL,
         length: 661,
         first: 7,
         second: 0,
@@ -691,7 +694,7 @@ pub const ROWS: [Row; 38] = [
         a: b'N',
         b: b'C',
         c: b'T',
-        place: DETAIL,
+        class: DETAIL,
         length: 661,
         first: 13,
         second: 0,
@@ -704,7 +707,7 @@ pub const ROWS: [Row; 38] = [
         a: b'N',
         b: b'V',
         c: b'T',
-        place: DETAIL,
+        class: DETAIL,
         length: 661,
         first: 8,
         second: 0,
@@ -717,7 +720,7 @@ pub const ROWS: [Row; 38] = [
         a: b'N',
         b: b'O',
         c: b'W',
-        place: DETAIL,
+        class: DETAIL,
         length: 342,
         first: 7,
         second: 8,
@@ -730,7 +733,7 @@ pub const ROWS: [Row; 38] = [
         a: b'A',
         b: b'R',
         c: b'I',
-        place: DETAIL,
+        class: DETAIL,
         length: 201,
         first: 14,
         second: 0,
@@ -743,7 +746,7 @@ pub const ROWS: [Row; 38] = [
         a: b'X',
         b: b'R',
         c: b'F',
-        place: DETAIL,
+        class: DETAIL,
         length: 38,
         first: 15,
         second: 0,

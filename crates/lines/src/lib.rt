@@ -10,7 +10,7 @@ ghost use Rattle.lines.specs.Scan.{textLength, scanned};
 fn is_text(b: u8) -> bool
     ensures { λ r. ⌜ r ≡ isText b ⌝ }
 {
-    32 <= b
+    b' ' <= b
 }
 
 // Whether each byte is text, byte by byte: for what is shorter than a block.
@@ -26,6 +26,9 @@ fn short_text(part: &[u8]) -> bool
     good
 }
 
+// How many bytes are tested at once.
+const BLOCK: usize = 32;
+
 // Whether the 32 bytes from a place on are text. With no branch on a byte, the compiler tests many at once.
 fn block_text(part: &[u8], at: usize) -> bool
     requires { ⌜ at + 32 ≤ length (now part) ⌝ }
@@ -33,7 +36,7 @@ fn block_text(part: &[u8], at: usize) -> bool
 {
     let mut good = true;
     let mut k = 0;
-    while k < 32 {
+    while k < BLOCK {
         good = good & is_text(part[at + k]);
         k += 1;
     }
@@ -44,15 +47,15 @@ fn block_text(part: &[u8], at: usize) -> bool
 pub fn all_text(part: &[u8]) -> bool
     ensures { λ r. ⌜ r ≡ every isText (now (part .entry)) ⌝ }
 {
-    if part.len() < 32 {
+    if part.len() < BLOCK {
         return short_text(part);
     }
-    let last = part.len() - 32;
+    let last = part.len() - BLOCK;
     let mut good = block_text(part, last);
     let mut i = 0;
     while i < last {
         good = good & block_text(part, i);
-        i += 32;
+        i += BLOCK;
     }
     good
 }
@@ -67,7 +70,7 @@ pub fn pair_at(file: &[u8], at: usize) -> bool
     if file.len() - 2 < at {
         return false;
     }
-    (file[at] == 13) & (file[at + 1] == 10)
+    (file[at] == b'\r') & (file[at + 1] == b'\n')
 }
 
 // The end of the text that starts at a place: the first byte from there on that is not text, or the file's end.

@@ -9,12 +9,12 @@ use lib.Dec.{eqb}
 use lib.ListN.{length}
 use lib.Seq.{take-at, drop-at}
 use borrow.Author.Tests.{eqb-false}
-use Rattle.format.specs.Bytes.{Bytes}
+use Rattle.format.specs.Bytes.{Bytes, bytesOf}
 use Rattle.format.proofs.Tests.{by-cases}
-use Rattle.rules.specs.Findings.{setOf, places, bytesOf, countOf}
+use Rattle.rules.specs.Findings.{setOf, places, countOf}
 use Rattle.rules.specs.Verdicts.{findingBytes}
 use Rattle.rules.specs.Listing.{lowestWord, recordLine, recordLines}
-use Rattle.rules.proofs.Joined.{length-bytes}
+use Rattle.format.proofs.Decimal.{length-bytes}
 use Rattle.findings.proofs.Laws.{count-of-set, lowest-of-set}
 use Rattle.text.specs.Words.{wordOf}
 use Rattle.lister.proofs.Small.{Small}

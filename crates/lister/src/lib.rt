@@ -18,9 +18,9 @@ ghost use Rattle.lister.specs.Promises.{Listed};
 ghost use Rattle.lister.specs.Put.{Put};
 ghost use Rattle.lister.specs.Read.{Listable, lineAt, linesFrom};
 
-const SPACE: u8 = 32;
+const SPACE: u8 = b' ';
 
-const LF: u8 = 10;
+const LF: u8 = b'\n';
 
 // ---- words
 
@@ -43,7 +43,7 @@ fn zeros(digits: &[u8]) -> usize
 {
     let mut i = 0;
     while i + 1 < digits.len() {
-        if digits[i] != 48 {
+        if digits[i] != b'0' {
             return i;
         }
         i += 1;
@@ -142,12 +142,6 @@ fn put_answer(a: Answer, out: &mut [u8]) -> usize
 
 // ---- the lines of the records
 
-fn wide(b: u8) -> u64
-    ensures { λ r. ⌜ r ≡ b ⌝ }
-{
-    b as u64
-}
-
 // The line of the record of that number, which stands there.
 fn put_line(
     file: &[u8],
@@ -171,7 +165,7 @@ fn put_line(
     put_record(
         number as u64,
         &file[at..three],
-        wide(verdicts[number]),
+        text::wide(verdicts[number]),
         set,
         out,
         from,

@@ -18,7 +18,7 @@ use Rattle.kinds.specs.Rows.{rowFor, shapeOf}
 use Rattle.kinds.specs.declared.Row.{Row}
 use Rattle.kinds.specs.declared.Shape.{Shape}
 use Rattle.lines.specs.Scan.{textLength}
-use Rattle.counts.specs.Tally.{tally, Kept}
+use Rattle.counts.specs.Counting.{countsIn, Kept}
 use Rattle.counts.specs.declared.Counts.{Counts as CodeCounts}
 use Rattle.structure.specs.Rest.{isGood}
 use Rattle.structure.specs.Walk.{Bounded, Next}
@@ -78,11 +78,11 @@ pub record Filling (f old : Bytes) (out : Bytes) (s : Stand) : Type 0 where
   pub fine : isGood (lines (drop (s .at) f)) ≡ true
   pub all : Along (check6 cwr22) (recordsIn (lines (drop (s .at) f)))
   pub same : length out ≡ length old
-  pub owed : take (s .at) out ++ unlines (number (tally (s .counts)) (map (held cwr22) (recordsIn (lines (drop (s .at) f))))) ≡ numberedFile cwr22 f
+  pub owed : take (s .at) out ++ unlines (number (countsIn (s .counts)) (map (held cwr22) (recordsIn (lines (drop (s .at) f))))) ≡ numberedFile cwr22 f
   pub kept : drop (s .at) out ≡ drop (s .at) old
 
-pub filling-start : (f old : Bytes) → Sized f → (n : CodeCounts) → tally n ≡ noneCounted → Kept n → n .records ≡ 0
-    → Filling f old old (record { at = 0; place = 6; counts = n })
+pub filling-start : (f old : Bytes) → Sized f → (n : CodeCounts) → countsIn n ≡ noneCounted → Kept n → n .records ≡ 0
+    → Filling f old old (record { at = 0; class = 6; counts = n })
 unfolding numberedFile
 filling-start f old s n e w z =
     record {
@@ -110,8 +110,8 @@ module _ {f old out : Bytes} {s : Stand} (F : Filling f old out s) (here : s .at
   abbrev row : Row
   row = rowFor (take 3 (drop (s .at) f))
 
-  placed : shape .place ≡ row .place
-  placed = ap (λ (x : Shape). x .place) its
+  placed : shape .class ≡ row .class
+  placed = ap (λ (x : Shape). x .class) its
 
   pub size : shape .length ≡ textLength (drop (s .at) f)
   size = ap (λ (x : Shape). x .length) its ∙ row-size f (s .at) here (F .fine) (F .all) row refl
@@ -119,50 +119,50 @@ module _ {f old out : Bytes} {s : Stand} (F : Filling f old out s) (here : s .at
   pub ends : s .at + shape .length + 2 ≤ length f
   ends = rw size (fits f (s .at) here (F .fine))
 
-  numbers-fit : at (classAt (shape .place)) + width (classAt (shape .place)) ≤ length (recordAt f (s .at))
+  numbers-fit : at (classAt (shape .class)) + width (classAt (shape .class)) ≤ length (recordAt f (s .at))
   numbers-fit = rw placed (row-numbers f (s .at) here (F .fine) (F .all) row refl)
 
-  pub room : at (classAt (shape .place)) + width (classAt (shape .place)) ≤ shape .length
+  pub room : at (classAt (shape .class)) + width (classAt (shape .class)) ≤ shape .length
   room = omega (arith, numbers-fit, long f (s .at) here (F .fine), size)
 
-  class-here : classAt (shape .place) ≡ cls cwr22 (recordAt f (s .at))
+  class-here : classAt (shape .class) ≡ cls cwr22 (recordAt f (s .at))
   class-here = ap classAt placed ∙ row-is f (s .at) here (F .fine) (F .all) row refl
 
   -- the bytes written, and after them the numbered rest
   module _ (e : ℕ) (q : e ≡ s .at + shape .length + 2) (ys : Bytes)
       (w : ys
-      ≡ take (at (classAt (shape .place))) (take (e - s .at) (drop (s .at) f))
-      ++ expected (tally (s .counts)) (classAt (shape .place))
-      ++ drop (at (classAt (shape .place)) + width (classAt (shape .place))) (take (e - s .at) (drop (s .at) f))) where
+      ≡ take (at (classAt (shape .class))) (take (e - s .at) (drop (s .at) f))
+      ++ expected (countsIn (s .counts)) (classAt (shape .class))
+      ++ drop (at (classAt (shape .class)) + width (classAt (shape .class))) (take (e - s .at) (drop (s .at) f))) where
     next-here : e ≡ s .at + textLength (drop (s .at) f) + 2
     next-here = q ∙ ap (λ (n : ℕ). s .at + n + 2) size
 
     line : ys
         ≡ put (start (cls cwr22 (recordAt f (s .at))))
-        (expected (tally (s .counts)) (cls cwr22 (recordAt f (s .at))))
+        (expected (countsIn (s .counts)) (cls cwr22 (recordAt f (s .at))))
         (cut (cls cwr22 (recordAt f (s .at))) (recordAt f (s .at)))
         ++ 13 ∷ 10 ∷ []
     line =
         let n : e - s .at ≡ textLength (drop (s .at) f) + 2 = omega (arith, next-here) in
         let whole = rw (n, line-here f (s .at) here (F .fine)) at w in
         whole
-        ∙ line-numbered (recordAt f (s .at)) (classAt (shape .place)) (expected (tally (s .counts)) (classAt (shape .place))) numbers-fit
+        ∙ line-numbered (recordAt f (s .at)) (classAt (shape .class)) (expected (countsIn (s .counts)) (classAt (shape .class))) numbers-fit
         ∙ rw class-here
 
     owed-on : (take (s .at) out ++ ys)
-        ++ unlines (number (count (tally (s .counts)) (classAt (shape .place))) (map (held cwr22) (recordsIn (lines (drop e f)))))
+        ++ unlines (number (count (countsIn (s .counts)) (classAt (shape .class))) (map (held cwr22) (recordsIn (lines (drop e f)))))
         ≡ numberedFile cwr22 f
     owed-on =
         rw (class-here, next-here)
-        (owed-turn (take (s .at) out) ys (tally (s .counts)) (recordAt f (s .at))
+        (owed-turn (take (s .at) out) ys (countsIn (s .counts)) (recordAt f (s .at))
         (recordsIn (lines (drop (s .at + textLength (drop (s .at) f) + 2) f))) (numberedFile cwr22 f) line
         (rw (records-here f (s .at) here (F .fine)) at (F .owed)))
 
-    pub filling-on : length f ≤ length out → length ys ≡ e - s .at → (next : Stand) → Next s (shape .length) (shape .place) next
+    pub filling-on : length f ≤ length out → length ys ≡ e - s .at → (next : Stand) → Next s (shape .length) (shape .class) next
         → Filling f old (putMid (s .at) (e - s .at) out ys) next
     filling-on g l next x =
         record {
-          bounded = bounded-on f s (shape .length) (shape .place) next (F .bounded) (rw placed (row-six (drop (s .at) f) row refl)) ends x;
+          bounded = bounded-on f s (shape .length) (shape .class) next (F .bounded) (rw placed (row-six (drop (s .at) f) row refl)) ends x;
           fine = rw (there, next-here) (fine-after f (s .at) here (F .fine));
           all = rw (there, next-here) (all-after f (s .at) here (F .fine) (F .all));
           same = length-written out ys (s .at) e inside fit l ∙ F .same;

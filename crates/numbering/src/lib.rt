@@ -13,19 +13,19 @@ ghost use Rattle.format.specs.Cwr22.{cwr22};
 ghost use Rattle.format.specs.Checks.{classAt, expected};
 ghost use Rattle.format.specs.Numbering.{numberedFile};
 ghost use Rattle.answers.specs.Numbers.{answerOf};
-ghost use Rattle.counts.specs.Tally.{tally, CanGrow};
+ghost use Rattle.counts.specs.Counting.{countsIn, CanGrow};
 ghost use Rattle.numbering.specs.Outcome.{numberAnswer, numberBuffer};
 ghost use Rattle.numbering.specs.Fill.{Sized};
 
 // One line, with its CR LF: copied, and its numbers written over what stood there.
-fn number_line(line: &[u8], out: &mut [u8], place: u8, counts: Counts)
-    requires { ⌜ (length (now out) ≡ length (now line)) × (CanGrow counts) × (at (classAt place) + width (classAt place) ≤ length (now line)) ⌝ }
-    ensures { λ _. ⌜ now (out .exit) ≡ take (at (classAt place)) (now (line .entry))
-        ++ expected (tally counts) (classAt place)
-        ++ drop (at (classAt place) + width (classAt place)) (now (line .entry)) ⌝ }
+fn number_line(line: &[u8], out: &mut [u8], class: u8, counts: Counts)
+    requires { ⌜ (length (now out) ≡ length (now line)) × (CanGrow counts) × (at (classAt class) + width (classAt class) ≤ length (now line)) ⌝ }
+    ensures { λ _. ⌜ now (out .exit) ≡ take (at (classAt class)) (now (line .entry))
+        ++ expected (countsIn counts) (classAt class)
+        ++ drop (at (classAt class) + width (classAt class)) (now (line .entry)) ⌝ }
 {
     bytes::copy(line, out);
-    counts.put(place, out);
+    counts.put(class, out);
 }
 
 // The file, numbered, at the front of out.
@@ -37,7 +37,7 @@ fn fill(file: &[u8], out: &mut [u8])
     let none = Counts::zero();
     let mut s = Stand {
         at: 0,
-        place: UNKNOWN,
+        class: UNKNOWN,
         counts: none,
     };
     while s.at < file.len() {
@@ -46,8 +46,8 @@ fn fill(file: &[u8], out: &mut [u8])
         let k = kinds::hint(file[at], file[at + 1], file[at + 2]);
         let shape = kinds::confirmed(rows[k], &file[at..]);
         let end = at + shape.size() + 2;
-        number_line(&file[at..end], &mut out[at..end], shape.place, counts);
-        s = structure::after_record(s, shape.length, shape.place);
+        number_line(&file[at..end], &mut out[at..end], shape.class, counts);
+        s = structure::after_record(s, shape.length, shape.class);
     }
 }
 

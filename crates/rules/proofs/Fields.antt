@@ -13,7 +13,7 @@ use Rattle.format.specs.Fields.{fieldOf, isDigit, areDigits, digit, numberFrom,
 use Rattle.rules.specs.Values.{shareOf}
 use Rattle.rules.specs.Chains.{allShares}
 
-pub field-short : (start size : ℕ) (r : Bytes) → length (fieldOf start size r) ≤ size
+field-short : (start size : ℕ) (r : Bytes) → length (fieldOf start size r) ≤ size
 unfolding fieldOf
 field-short start size r = rw length-take (omega arith)
 
@@ -37,11 +37,8 @@ pub number-below : (f : Bytes) → numberOf f < 10 ^ length f
 unfolding numberOf
 number-below f = omega (arith, number-from-below 0 f)
 
-pub two-below : (f : Bytes) → length f ≤ 2 → numberOf f < 100
-two-below f h = omega (arith, number-below f, pow-le-pow-right {n = 10} (lit< tt) {i = length f} {j = 2} h)
-
 -- a share of five bytes at most
-pub share-most : (f : Bytes) → length f ≤ 5 → shareOf f ≤ 99999
+share-most : (f : Bytes) → length f ≤ 5 → shareOf f ≤ 99999
 unfolding shareOf
 share-most f h = most (areDigits f) (omega (arith, number-below f, pow-le-pow-right {n = 10} (lit< tt) {i = length f} {j = 5} h))
   where
@@ -51,4 +48,9 @@ share-most f h = most (areDigits f) (omega (arith, number-below f, pow-le-pow-ri
 
 pub all-shares-most : (r : Bytes) → allShares r ≤ 299997
 all-shares-most r =
-    omega (arith, share-most (fieldOf 116 5 r) (field-short 116 5 r), share-most (fieldOf 124 5 r) (field-short 124 5 r), share-most (fieldOf 132 5 r) (field-short 132 5 r))
+    omega (
+      arith,
+      share-most (fieldOf 116 5 r) (field-short 116 5 r),
+      share-most (fieldOf 124 5 r) (field-short 124 5 r),
+      share-most (fieldOf 132 5 r) (field-short 132 5 r),
+    )

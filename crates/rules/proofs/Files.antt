@@ -6,14 +6,14 @@ use mathlib.Core.List.{List, [], _∷_, _++_, map}
 use lib.ListN.{length, replicate}
 use borrow.Author.Tests.{lt-leb}
 use Rattle.format.specs.Ascii.{ascii}
-use Rattle.format.specs.Bytes.{Bytes, isText, decimal, unlines}
+use Rattle.format.specs.Bytes.{Bytes, isText, decimal, bytesOf, unlines}
 use Rattle.format.specs.Cwr22.{rows22, version22}
 use Rattle.format.specs.Lines.{lines}
 use Rattle.format.specs.Structure.{Answer, refused, passed, judged, structure}
 use Rattle.format.specs.Tree.{tree}
 use Rattle.format.proofs.Examples.{fileA}
 use Rattle.rules.specs.Tables.{Tables, rightTable}
-use Rattle.rules.specs.Findings.{setOf, bytesOf, countOf, lowestOf, level, worst}
+use Rattle.rules.specs.Findings.{setOf, countOf, lowestOf, level, worst}
 use Rattle.rules.specs.Verdicts.{findingBytes, rejects, raised, isStray, groupFindings, fileFindings, transactionVerdicts, groupVerdicts, fileVerdicts}
 use Rattle.rules.specs.Outcome.{answer, Outcome, check}
 use Rattle.rules.specs.Listing.{figure, recordLine, answerLine, listed, mostInput, listingTables, listing}
@@ -168,7 +168,10 @@ listings =
     ∷ []
 
 all-files : (map computed examples ≡ map said examples) × (map printed listings ≡ map shown listings)
-unfolding examples computed said goes stops lent findingsB none listings printed shown texts fileA fileB opening closing foundOn check answer rightTable structure judged lines isText decimal rows22 version22 tree findingBytes rejects raised isStray groupFindings fileFindings transactionVerdicts groupVerdicts fileVerdicts setOf bytesOf level worst figure recordLine answerLine listed listing countOf lowestOf
+unfolding examples computed said goes stops lent findingsB none listings printed shown texts fileA fileB opening closing foundOn
+    check answer rightTable structure judged lines isText decimal rows22 version22 tree findingBytes rejects raised isStray
+    groupFindings fileFindings transactionVerdicts groupVerdicts fileVerdicts setOf bytesOf level worst figure recordLine
+    answerLine listed listing countOf lowestOf
 all-files = (refl, refl)
 
 -- more than the program reads

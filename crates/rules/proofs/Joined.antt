@@ -1,11 +1,13 @@
 -- Lists joined one after the other, and the bytes of sets of findings so joined. Assumes nothing.
-use mathlib.Core.Path.{_≡_, refl, ap, _∙_}
+use mathlib.Core.Path.{_≡_, refl, _∙_}
 use mathlib.Core.Bool.{Bool}
 use mathlib.Core.List.{List, [], _∷_, _++_, append-assoc, append-nil}
-use Prim.Native.Nat.{ℕ, zero, suc, _*_, _/_}
+use Prim.Native.Nat.{ℕ, _*_}
 use native.Mathlib.Omega.{arith}
 use lib.ListN.{length, length-append}
-use Rattle.rules.specs.Findings.{setOf, bytesOf}
+use Rattle.format.specs.Bytes.{bytesOf}
+use Rattle.format.proofs.Decimal.{length-bytes}
+use Rattle.rules.specs.Findings.{setOf}
 use Rattle.rules.specs.Verdicts.{joined, findingBytes}
 
 module _ {A B : Type 0} (f : A → List B) where
@@ -20,11 +22,6 @@ module _ {A B : Type 0} (f : A → List B) where
   pub length-joined : (w : ℕ) → ((x : A) → length (f x) ≡ w) → (xs : List A) → length (joined f xs) ≡ w * length xs
   length-joined w e [] = omega arith
   length-joined w e (x ∷ xs) = length-append (f x) (joined f xs) ∙ omega (arith, e x, length-joined w e xs)
-
-pub length-bytes : (k n : ℕ) → length (bytesOf k n) ≡ k
-unfolding bytesOf
-length-bytes zero n = refl
-length-bytes (suc k) n = ap suc (length-bytes k (n / 256))
 
 pub findings-one : (set : List Bool) → findingBytes (set ∷ []) ≡ bytesOf 8 (setOf set)
 unfolding findingBytes

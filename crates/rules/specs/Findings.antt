@@ -64,11 +64,6 @@ unfoldable pub places : ℕ → ℕ → List Bool
 places zero n = []
 places (suc k) n = eqb (n % 2) 1 ∷ places k (n / 2)
 
--- the lowest so many bytes of a number, least significant first
-unfoldable pub bytesOf : ℕ → ℕ → Bytes
-bytesOf zero n = []
-bytesOf (suc k) n = n % 256 ∷ bytesOf k (n / 256)
-
 -- how many hold
 unfoldable pub countOf : List Bool → ℕ
 countOf [] = 0

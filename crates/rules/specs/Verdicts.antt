@@ -3,12 +3,12 @@ use Prim.Native.Nat.{ℕ, suc}
 use mathlib.Core.Bool.{Bool, false, cond, _&&_, _||_}
 use mathlib.Core.List.{List, [], _∷_, _++_, map}
 use lib.Dec.{eqb}
-use Rattle.format.specs.Bytes.{Bytes}
+use Rattle.format.specs.Bytes.{Bytes, bytesOf}
 use Rattle.format.specs.Doc.{Group, Transaction}
 use Rattle.format.specs.Tree.{Tree}
 use Rattle.rules.specs.Tables.{Tables}
 use Rattle.rules.specs.Records.{any}
-use Rattle.rules.specs.Findings.{TR, GR, setOf, bytesOf, level, verdict, verdictOf, larger, worst}
+use Rattle.rules.specs.Findings.{TR, GR, setOf, level, verdict, verdictOf, larger, worst}
 use Rattle.rules.specs.Works.{namedType, is0, transactionFindings}
 
 -- one list after the other

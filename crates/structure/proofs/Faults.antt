@@ -13,19 +13,19 @@ use Rattle.format.specs.Cwr22.{cwr22}
 use Rattle.format.specs.Checks.{Counts, classAt, is}
 use Rattle.format.specs.Structure.{refused, passed, refusal}
 use Rattle.structure.specs.Rest.{orElse, versionFrom, atEnd}
-use Rattle.structure.specs.Walk.{met, faultsOf}
-use Rattle.structure.specs.declared.Met.{Met}
+use Rattle.structure.specs.Walk.{faultIn, faultsOf}
+use Rattle.structure.specs.declared.FirstFaults.{FirstFaults}
 use Rattle.structure.proofs.Follow.{code-class}
 
-pub met-one : (n : ℕ) → met (n + 1) ≡ some n
-met-one n = rw add-one
+pub fault-one : (n : ℕ) → faultIn (n + 1) ≡ some n
+fault-one n = rw add-one
 
-pub met-some : (n : ℕ) → n ≢ 0 → met n ≡ some (n - 1)
-met-some zero h = absurd (h refl)
-met-some (suc n) h = ap some (omega arith)
+pub fault-some : (n : ℕ) → n ≢ 0 → faultIn n ≡ some (n - 1)
+fault-some zero h = absurd (h refl)
+fault-some (suc n) h = ap some (omega arith)
 
-pub met-kept : (n : ℕ) → n ≢ 0 → (o : Option ℕ) → met n ≡ orElse (met n) o
-met-kept n h o = rw (met-some n h)
+pub fault-kept : (n : ℕ) → n ≢ 0 → (o : Option ℕ) → faultIn n ≡ orElse (faultIn n) o
+fault-kept n h o = rw (fault-some n h)
 
 -- an alternative that comes before another, or after it
 pub or-swap : (a b c : Bool) → (a || (b || c)) ≡ (b || (a || c))
@@ -35,10 +35,10 @@ or-swap false b c = refl
 
 -- ---- after the last record
 
-module _ (asked version : Bool) (m : Met) (p : ℕ) (n : Counts) where
-  pub end-met : (i : ℕ) → m .seven ≢ 0 → i ≡ m .seven - 1 → refused 7 i ≡ atEnd cwr22 asked version (faultsOf m) (classAt p) n
+module _ (asked version : Bool) (m : FirstFaults) (p : ℕ) (n : Counts) where
+  pub end-fault : (i : ℕ) → m .seven ≢ 0 → i ≡ m .seven - 1 → refused 7 i ≡ atEnd cwr22 asked version (faultsOf m) (classAt p) n
   unfolding atEnd
-  end-met i h e = rw (e, met-some (m .seven) h)
+  end-fault i h e = rw (e, fault-some (m .seven) h)
 
   module _ (none7 : m .seven ≡ 0) (few : p ≤ 6) where
     at-trl : is trl (classAt p) ≡ eqb 5 p
@@ -50,16 +50,16 @@ module _ (asked version : Bool) (m : Met) (p : ℕ) (n : Counts) where
 
     module _ (last : p ≡ 5) where
       ended : atEnd cwr22 asked version (faultsOf m) (classAt p) n
-          ≡ refusal 8 (met (m .eight)) (refusal 9 (met (m .nine)) (versionFrom cwr22 asked version n))
+          ≡ refusal 8 (faultIn (m .eight)) (refusal 9 (faultIn (m .nine)) (versionFrom cwr22 asked version n))
       unfolding atEnd
       ended = rw (none7, at-trl, eq-eqb 5 p (sym last))
 
       pub end-number : (i : ℕ) → m .eight ≢ 0 → i ≡ m .eight - 1 → refused 8 i ≡ atEnd cwr22 asked version (faultsOf m) (classAt p) n
-      end-number i h e = sym (ended ∙ rw (met-some (m .eight) h, e))
+      end-number i h e = sym (ended ∙ rw (fault-some (m .eight) h, e))
 
       module _ (none8 : m .eight ≡ 0) where
         pub end-total : (i : ℕ) → m .nine ≢ 0 → i ≡ m .nine - 1 → refused 9 i ≡ atEnd cwr22 asked version (faultsOf m) (classAt p) n
-        end-total i h e = sym (ended ∙ rw (none8, met-some (m .nine) h, e))
+        end-total i h e = sym (ended ∙ rw (none8, fault-some (m .nine) h, e))
 
         module _ (none9 : m .nine ≡ 0) where
           pub end-version : version ≡ false → refused 10 0 ≡ atEnd cwr22 asked version (faultsOf m) (classAt p) n

@@ -4,7 +4,7 @@ use Prim.Native.Nat.{ℕ, _+_, _≤_, _<_}
 use native.Mathlib.Nat.{add-assoc}
 use native.Mathlib.Omega.{arith}
 use mathlib.Core.Path.{_≡_, refl, sym, ap, _∙_, subst}
-use mathlib.Core.Bool.{true, false, not, and-eq-true-iff, false≢true}
+use mathlib.Core.Bool.{true, not, and-eq-true-iff, false≢true}
 use mathlib.Core.List.{[], _∷_, _++_, append-assoc}
 use lib.ListN.{length, take, drop, length-drop, length-append}
 use lib.Seq.{length-take-le, take-take, take-at, drop-drop}
@@ -106,11 +106,11 @@ module _ (f : Bytes) (i : ℕ) (here : i < length f) (fine : isGood (lines (drop
     row-size =
         let e = sym (row-typed (recordAt f i) row its-own) ∙ is-true (typed cwr22 (recordAt f i)) here-typed in
         sym (eqb-true (length (recordAt f i)) (row .length)
-        (and-eq-true-iff (not (eqb (row .place) 6)) (eqb (length (recordAt f i)) (row .length)) .0 e .1))
+        (and-eq-true-iff (not (eqb (row .class) 6)) (eqb (length (recordAt f i)) (row .length)) .0 e .1))
         ∙ long f i here fine
 
-    pub row-numbers : at (classAt (row .place)) + width (classAt (row .place)) ≤ length (recordAt f i)
+    pub row-numbers : at (classAt (row .class)) + width (classAt (row .class)) ≤ length (recordAt f i)
     row-numbers = row-room (recordAt f i) row its-own (is-true (typed cwr22 (recordAt f i)) here-typed)
 
-    pub row-is : classAt (row .place) ≡ cls cwr22 (recordAt f i)
+    pub row-is : classAt (row .class) ≡ cls cwr22 (recordAt f i)
     row-is = row-class (recordAt f i) row its-own

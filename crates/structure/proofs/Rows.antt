@@ -18,23 +18,23 @@ use Rattle.format.proofs.Tree.{class-code}
 use Rattle.kinds.specs.Rows.{kinds, rowFor}
 use Rattle.kinds.specs.declared.Row.{Row}
 use Rattle.structure.specs.Walk.{Roomy}
-use Rattle.kinds.proofs.Laws.{place-class, length-len}
+use Rattle.kinds.proofs.Laws.{class-is, length-len}
 
 -- ---- each row of the table is roomy
 
 roomy : Row → Bool
-roomy r = leb (r .place) 5 && (leb 3 (r .length) && leb (at (classAt (r .place)) + width (classAt (r .place))) (r .length))
+roomy r = leb (r .class) 5 && (leb 3 (r .length) && leb (at (classAt (r .class)) + width (classAt (r .class))) (r .length))
 
 roomy→Roomy : (r : Row) → T (roomy r) → Roomy r
 unfolding roomy
 roomy→Roomy r t =
-    let a = leb (r .place) 5 in
+    let a = leb (r .class) 5 in
     let b = leb 3 (r .length) in
-    let c = leb (at (classAt (r .place)) + width (classAt (r .place))) (r .length) in
+    let c = leb (at (classAt (r .class)) + width (classAt (r .class))) (r .length) in
     record {
-      place = leb→le (r .place) 5 (left a (b && c) t);
+      class = leb→le (r .class) 5 (left a (b && c) t);
       type = leb→le 3 (r .length) (left b c (right a (b && c) t));
-      numbers = leb→le (at (classAt (r .place)) + width (classAt (r .place))) (r .length) (right b c (right a (b && c) t));
+      numbers = leb→le (at (classAt (r .class)) + width (classAt (r .class))) (r .length) (right b c (right a (b && c) t));
     }
 
 kinds-roomy : every roomy kinds ≡ true
@@ -78,24 +78,24 @@ code-six trl = omega arith
 code-six unknown = omega arith
 
 module _ (r : Bytes) (row : Row) (its : row ≡ rowFor (take 3 r)) where
-  pub row-class : classAt (row .place) ≡ cls cwr22 r
-  row-class = ap (λ (x : Row). classAt (x .place)) its ∙ ap classAt (place-class r) ∙ class-code (cls cwr22 r)
+  pub row-class : classAt (row .class) ≡ cls cwr22 r
+  row-class = ap (λ (x : Row). classAt (x .class)) its ∙ ap classAt (class-is r) ∙ class-code (cls cwr22 r)
 
-  pub row-code : row .place ≡ code (cls cwr22 r)
-  row-code = ap (λ (x : Row). x .place) its ∙ place-class r
+  pub row-code : row .class ≡ code (cls cwr22 r)
+  row-code = ap (λ (x : Row). x .class) its ∙ class-is r
 
   row-length : row .length ≡ cwr22 .len (take 3 r)
   row-length = ap (λ (x : Row). x .length) its ∙ length-len r
 
-  -- right by 6: a known place, and the row's length
-  pub row-typed : typed cwr22 r ≡ (not (eqb (row .place) 6) && eqb (length r) (row .length))
+  -- right by 6: a known class, and the row's length
+  pub row-typed : typed cwr22 r ≡ (not (eqb (row .class) 6) && eqb (length r) (row .length))
   row-typed = rw (row-code, row-length, known-code (cls cwr22 r))
 
-  pub row-six : row .place ≤ 6
+  pub row-six : row .class ≤ 6
   row-six = rw row-code (code-six (cls cwr22 r))
 
   -- and then there is room for its numbers
-  pub row-room : typed cwr22 r ≡ true → at (classAt (row .place)) + width (classAt (row .place)) ≤ length r
+  pub row-room : typed cwr22 r ≡ true → at (classAt (row .class)) + width (classAt (row .class)) ≤ length r
   row-room e =
       let t = is-T (typed cwr22 r) e in
       let k = left (known (cls cwr22 r)) (eqb (length r) (cwr22 .len (take 3 r))) t in

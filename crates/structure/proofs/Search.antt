@@ -16,11 +16,11 @@ use Rattle.format.specs.Numbering.{recordsIn}
 use Rattle.kinds.specs.Rows.{rowFor}
 use Rattle.kinds.specs.declared.Row.{Row}
 use Rattle.lines.specs.Scan.{textLength}
-use Rattle.counts.specs.Tally.{tally}
+use Rattle.counts.specs.Counting.{countsIn}
 use Rattle.structure.specs.Rest.{judgedFrom, moreFaults, atEnd, isGood}
 use Rattle.structure.specs.Walk.{Bounded, Next, faultsOf}
 use Rattle.structure.specs.declared.Stand.{Stand}
-use Rattle.structure.specs.declared.Met.{Met}
+use Rattle.structure.specs.declared.FirstFaults.{FirstFaults}
 use Rattle.structure.proofs.Rest.{judged-turn, judged-type, judged-end}
 use Rattle.structure.proofs.Rows.{row-class, row-typed, row-six}
 use Rattle.structure.proofs.Turns.{bounded-on}
@@ -28,17 +28,17 @@ use Rattle.structure.proofs.Here.{recordAt, fits, long, records-here, f
 
 -- ---- what the scan keeps: the records from here on, with the faults met, decide
 
-pub record Judging (f : Bytes) (asked version : Bool) (s : Stand) (m : Met) (answer : Answer) : Type 0 where
+pub record Judging (f : Bytes) (asked version : Bool) (s : Stand) (m : FirstFaults) (answer : Answer) : Type 0 where
   pub bounded : Bounded f s
   pub fine : isGood (lines (drop (s .at) f)) ≡ true
   pub rest :
-      judgedFrom cwr22 asked version (faultsOf m) (classAt (s .place)) (tally (s .counts)) (recordsIn (lines (drop (s .at) f))) ≡ answer
+      judgedFrom cwr22 asked version (faultsOf m) (classAt (s .class)) (countsIn (s .counts)) (recordsIn (lines (drop (s .at) f))) ≡ answer
 
-module _ (f : Bytes) (asked version : Bool) (s : Stand) (m : Met) (answer : Answer) (J : Judging f asked version s m answer) where
-  pub judging-end : length f ≤ s .at → atEnd cwr22 asked version (faultsOf m) (classAt (s .place)) (tally (s .counts)) ≡ answer
+module _ (f : Bytes) (asked version : Bool) (s : Stand) (m : FirstFaults) (answer : Answer) (J : Judging f asked version s m answer) where
+  pub judging-end : length f ≤ s .at → atEnd cwr22 asked version (faultsOf m) (classAt (s .class)) (countsIn (s .counts)) ≡ answer
   unfolding lines
   judging-end h =
-      sym (judged-end cwr22 asked version (faultsOf m) (classAt (s .place)) (tally (s .counts)))
+      sym (judged-end cwr22 asked version (faultsOf m) (classAt (s .class)) (countsIn (s .counts)))
       ∙ (rw (drop-of-length-le f h) at (J .rest))
 
   module _ (here : s .at < length f) (e : ℕ) (ends : e ≡ s .at + textLength (drop (s .at) f))
@@ -53,38 +53,38 @@ module _ (f : Bytes) (asked version : Bool) (s : Stand) (m : Met) (answer : Answ
     others : List Bytes
     others = recordsIn (lines (drop (s .at + textLength (drop (s .at) f) + 2) f))
 
-    decides : judgedFrom cwr22 asked version (faultsOf m) (classAt (s .place)) (tally (s .counts)) (r ∷ others) ≡ answer
+    decides : judgedFrom cwr22 asked version (faultsOf m) (classAt (s .class)) (countsIn (s .counts)) (r ∷ others) ≡ answer
     unfolding others
     decides = rw cut (rw (records-here f (s .at) here (J .fine)) at (J .rest))
 
-    module _ (shaped : Bool) (test : shaped ≡ (not (eqb (row .place) 6) && eqb (length r) (row .length))) where
+    module _ (shaped : Bool) (test : shaped ≡ (not (eqb (row .class) 6) && eqb (length r) (row .length))) where
       pub is-typed : typed cwr22 r ≡ shaped
       is-typed = row-typed r row its ∙ sym test
 
       pub judging-type : shaped ≡ false → refused 6 (s .counts .records) ≡ answer
       judging-type z =
-          sym (judged-type cwr22 asked version (faultsOf m) (classAt (s .place)) (tally (s .counts)) r others (is-typed ∙ z)) ∙ decides
+          sym (judged-type cwr22 asked version (faultsOf m) (classAt (s .class)) (countsIn (s .counts)) r others (is-typed ∙ z)) ∙ decides
 
       module _ (z : shaped ≡ true) where
         size : row .length ≡ textLength (drop (s .at) f)
         size =
             sym (eqb-true (length r) (row .length)
-            (and-eq-true-iff (not (eqb (row .place) 6)) (eqb (length r) (row .length)) .0 (sym test ∙ z) .1))
+            (and-eq-true-iff (not (eqb (row .class) 6)) (eqb (length r) (row .length)) .0 (sym test ∙ z) .1))
             ∙ ap length cut
             ∙ long f (s .at) here (J .fine)
 
-        pub judging-on : (next : Stand) → Next s (row .length) (row .place) next
-            → (more : Met) → faultsOf more ≡ moreFaults cwr22 asked (faultsOf m) (classAt (s .place)) (tally (s .counts)) r
+        pub judging-on : (next : Stand) → Next s (row .length) (row .class) next
+            → (more : FirstFaults) → faultsOf more ≡ moreFaults cwr22 asked (faultsOf m) (classAt (s .class)) (countsIn (s .counts)) r
             → Judging f asked version next more answer
         unfolding others
         judging-on next x more k =
             record {
-              bounded = bounded-on f s (row .length) (row .place) next (J .bounded) (row-six r row its) (rw size (fits f (s .at) here (J .fine))) x;
-              fine = rw place (fine-after f (s .at) here (J .fine));
+              bounded = bounded-on f s (row .length) (row .class) next (J .bounded) (row-six r row its) (rw size (fits f (s .at) here (J .fine))) x;
+              fine = rw behind (fine-after f (s .at) here (J .fine));
               rest =
-                  rw (k, x .place, x .counts, row-class r row its, place)
-                  (sym (judged-turn cwr22 asked version (faultsOf m) (classAt (s .place)) (tally (s .counts)) r others (is-typed ∙ z)) ∙ decides);
+                  rw (k, x .class, x .counts, row-class r row its, behind)
+                  (sym (judged-turn cwr22 asked version (faultsOf m) (classAt (s .class)) (countsIn (s .counts)) r others (is-typed ∙ z)) ∙ decides);
             }
           where
-            place : next .at ≡ s .at + textLength (drop (s .at) f) + 2
-            place = x .at ∙ ap (λ (n : ℕ). s .at + n + 2) size
+            behind : next .at ≡ s .at + textLength (drop (s .at) f) + 2
+            behind = x .at ∙ ap (λ (n : ℕ). s .at + n + 2) size

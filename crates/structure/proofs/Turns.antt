@@ -20,7 +20,7 @@ use Rattle.kinds.specs.declared.Row.{Row}
 use Rattle.format.proofs.Tests.{both}
 use Rattle.kinds.proofs.Laws.{first-three, hinted}
 use Rattle.lines.proofs.Laws.{every-text, pair-after}
-use Rattle.counts.specs.Tally.{tally, Kept}
+use Rattle.counts.specs.Counting.{countsIn, Kept}
 use Rattle.counts.specs.declared.Counts.{Counts as CodeCounts}
 use Rattle.structure.specs.Rest.{orElse, Faults, restFrom, moreFaults}
 use Rattle.structure.specs.Walk.{Roomy, Bounded, Stood, RightAt, Next}
@@ -36,22 +36,22 @@ module _ (t : Bytes) (row : Row) (its : row ≡ rowFor (take 3 t)) where
   cut-row : 3 ≤ row .length → row ≡ rowFor (take 3 (take (row .length) t))
   cut-row h = its ∙ sym (ap rowFor (take-take 3 (row .length) t h))
 
-  cut-typed : row .place ≤ 5 → 3 ≤ row .length → row .length ≤ length t → typed cwr22 (take (row .length) t) ≡ true
+  cut-typed : row .class ≤ 5 → 3 ≤ row .length → row .length ≤ length t → typed cwr22 (take (row .length) t) ≡ true
   cut-typed p h k =
       let r = take (row .length) t in
       let e : length r ≡ row .length = length-take-le (row .length) t k in
-      row-typed r row (cut-row h) ∙ rw (ne-eqb (row .place) 6 (omega arith), eq-eqb (length r) (row .length) e)
+      row-typed r row (cut-row h) ∙ rw (ne-eqb (row .class) 6 (omega arith), eq-eqb (length r) (row .length) e)
 
   module _ (asked version : Bool) (p : Class) (n : Counts) where
-    jump : row .place ≤ 5 → 3 ≤ row .length → row .length ≤ length t
+    jump : row .class ≤ 5 → 3 ≤ row .length → row .length ≤ length t
         → every isText (take (row .length) t) ≡ true → beginsPair (drop (row .length) t) ≡ true
-        → mayFollow p (classAt (row .place)) ≡ true
-        → (not asked || sameBytes (slot (classAt (row .place)) (take (row .length) t)) (expected n (classAt (row .place)))) ≡ true
+        → mayFollow p (classAt (row .class)) ≡ true
+        → (not asked || sameBytes (slot (classAt (row .class)) (take (row .length) t)) (expected n (classAt (row .class)))) ≡ true
         → restFrom cwr22 asked version p n t
-        ≡ restFrom cwr22 asked version (classAt (row .place)) (count n (classAt (row .place))) (drop (row .length + 2) t)
+        ≡ restFrom cwr22 asked version (classAt (row .class)) (count n (classAt (row .class))) (drop (row .length + 2) t)
     jump q h k x y s m =
         let r = take (row .length) t in
-        let c : classAt (row .place) ≡ cls cwr22 r = row-class r row (cut-row h) in
+        let c : classAt (row .class) ≡ cls cwr22 r = row-class r row (cut-row h) in
         ap (restFrom cwr22 asked version p n) (pair-after (row .length) t y)
         ∙ rest-turn cwr22 asked version p n r (drop (row .length + 2) t) (every-text r x) (cut-typed q h k) (rw c at s) (rw c at m)
         ∙ rw (← c)
@@ -62,28 +62,28 @@ pub bounded-on : (f : Bytes) (s : Stand) (l p : ℕ) (next : Stand) → Bounded 
 bounded-on f s l p next b h k x =
     record {
       inside = rw (x .at) k;
-      place = rw (x .place) h;
+      class = rw (x .class) h;
       kept = x .kept;
       few = omega (arith, b .few, x .at, x .records);
     }
 
 module _ (f : Bytes) (asked : Bool) (s : Stand) (row : Row) (next : Stand) where
   pub stood-on : Stood f asked s → RightAt f asked s row → Roomy row → row ≡ rowFor (take 3 (drop (s .at) f))
-      → Next s (row .length) (row .place) next → Stood f asked next
+      → Next s (row .length) (row .class) next → Stood f asked next
   stood-on d r m its x =
       record {
-        bounded = bounded-on f s (row .length) (row .place) next (d .bounded) (omega (arith, m .place)) (r .fits) x;
-        rest = λ version. rw (x .place, x .counts, x .at) (sym (go version) ∙ d .rest version);
+        bounded = bounded-on f s (row .length) (row .class) next (d .bounded) (omega (arith, m .class)) (r .fits) x;
+        rest = λ version. rw (x .class, x .counts, x .at) (sym (go version) ∙ d .rest version);
       }
     where
       t : Bytes
       t = drop (s .at) f
 
       go : (version : Bool)
-          → restFrom cwr22 asked version (classAt (s .place)) (tally (s .counts)) (drop (s .at) f)
-          ≡ restFrom cwr22 asked version (classAt (row .place)) (count (tally (s .counts)) (classAt (row .place))) (drop (s .at + row .length + 2) f)
+          → restFrom cwr22 asked version (classAt (s .class)) (countsIn (s .counts)) (drop (s .at) f)
+          ≡ restFrom cwr22 asked version (classAt (row .class)) (count (countsIn (s .counts)) (classAt (row .class))) (drop (s .at + row .length + 2) f)
       go version =
-          jump (drop (s .at) f) row its asked version (classAt (s .place)) (tally (s .counts)) (m .place) (m .type)
+          jump (drop (s .at) f) row its asked version (classAt (s .class)) (countsIn (s .counts)) (m .class) (m .type)
           (rw length-drop (omega (arith, r .fits))) (r .text) (rw drop-drop (r .pair)) (r .follows) (r .numbers)
           ∙ rw (drop-drop, add-assoc)
 
@@ -91,11 +91,11 @@ module _ (f : Bytes) (asked : Bool) (s : Stand) (row : Row) (next : Stand) where
 
 module _ (r : Bytes) (row : Row) (its : row ≡ rowFor (take 3 r)) (asked : Bool) (m : Faults) (p : Class) (n : Counts) where
   pub faults-more : (f : Faults) (follows held : Bool)
-      → follows ≡ mayFollow p (classAt (row .place))
-      → held ≡ (not asked || sameBytes (slot (classAt (row .place)) r) (expected n (classAt (row .place))))
+      → follows ≡ mayFollow p (classAt (row .class))
+      → held ≡ (not asked || sameBytes (slot (classAt (row .class)) r) (expected n (classAt (row .class))))
       → f .seven ≡ orElse (m .seven) (unless follows (n .records))
-      → f .eight ≡ orElse (m .eight) (unless (eqb 4 (row .place) || eqb 5 (row .place) || held) (n .records))
-      → f .nine ≡ orElse (m .nine) (unless (not (eqb 4 (row .place) || eqb 5 (row .place)) || held) (n .records))
+      → f .eight ≡ orElse (m .eight) (unless (eqb 4 (row .class) || eqb 5 (row .class) || held) (n .records))
+      → f .nine ≡ orElse (m .nine) (unless (not (eqb 4 (row .class) || eqb 5 (row .class)) || held) (n .records))
       → f ≡ moreFaults cwr22 asked m p n r
   unfolding moreFaults
   faults-more f follows held a b x y z =
@@ -121,8 +121,8 @@ module _ (f : Bytes) (asked : Bool) (s : Stand) (row : Row) where
       → type ≡ sameBytes (typeOf row) (getD r 0 0 ∷ getD r 1 0 ∷ getD r 2 0 ∷ [])
       → pair ≡ beginsPair (drop (s .at + l) f)
       → text ≡ every isText r
-      → follows ≡ mayFollow (classAt (s .place)) (classAt (row .place))
-      → numbers ≡ (not asked || sameBytes (slot (classAt (row .place)) r) (expected (tally (s .counts)) (classAt (row .place))))
+      → follows ≡ mayFollow (classAt (s .class)) (classAt (row .class))
+      → numbers ≡ (not asked || sameBytes (slot (classAt (row .class)) r) (expected (countsIn (s .counts)) (classAt (row .class))))
       → (type && pair && text && follows && numbers) ≡ true → RightAt f asked s row
   right-at l e r part inside fits three type pair text follows numbers a b x y z q =
       let (q4, n) = both (type && pair && text && follows) numbers q in
@@ -149,16 +149,16 @@ module _ (f : Bytes) (asked : Bool) (s : Stand) (row : Row) where
 
 -- ---- the walk's start, and its turn with a row of the table
 
-pub bounded-start : (f : Bytes) (n : CodeCounts) → Kept n → n .records ≡ 0 → Bounded f (record { at = 0; place = 6; counts = n })
-bounded-start f n w z = record { inside = omega arith; place = omega arith; kept = w; few = omega (arith, z) }
+pub bounded-start : (f : Bytes) (n : CodeCounts) → Kept n → n .records ≡ 0 → Bounded f (record { at = 0; class = 6; counts = n })
+bounded-start f n w z = record { inside = omega arith; class = omega arith; kept = w; few = omega (arith, z) }
 
-pub stood-start : (f : Bytes) (asked : Bool) (n : CodeCounts) → tally n ≡ noneCounted → Kept n → n .records ≡ 0
-    → Stood f asked (record { at = 0; place = 6; counts = n })
+pub stood-start : (f : Bytes) (asked : Bool) (n : CodeCounts) → countsIn n ≡ noneCounted → Kept n → n .records ≡ 0
+    → Stood f asked (record { at = 0; class = 6; counts = n })
 stood-start f asked n e w z = record { bounded = bounded-start f n w z; rest = λ version. rw e }
 
 module _ (l : List Row) (table : l ≡ kinds) (k : ℕ) (few : k < 38) (d : Row) where
   pub stood-by : (f : Bytes) (asked : Bool) (s next : Stand) → Stood f asked s → RightAt f asked s (getD l k d)
-      → Next s (getD l k d .length) (getD l k d .place) next → Stood f asked next
+      → Next s (getD l k d .length) (getD l k d .class) next → Stood f asked next
   stood-by f asked s next st r x =
       stood-on f asked s (getD l k d) next st r (row-roomy l table k few d)
       (hinted l table (take 3 (drop (s .at) f)) k (in-table l table k few) d (r .type)) x

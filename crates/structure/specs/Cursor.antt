@@ -30,6 +30,6 @@ pub record First (f : Bytes) (i : ℕ) (c : Class) (row : Row) (r : Bytes) (rs :
   pub long : length r ≡ row .length
   pub three : 3 ≤ row .length
   pub own : row ≡ rowFor (take 3 r)
-  pub class : cls cwr22 r ≡ classAt (row .place)
+  pub class : cls cwr22 r ≡ classAt (row .class)
   pub follows : mayFollow c (cls cwr22 r) ≡ true
   pub next : Here f (i + row .length + 2) (cls cwr22 r) rs

@@ -10,21 +10,21 @@ use Rattle.format.specs.Cwr22.{cwr22}
 use Rattle.format.specs.Checks.{classAt, noneCounted, count, mayFollow, slot, expected}
 use Rattle.kinds.specs.Rows.{typeOf}
 use Rattle.kinds.specs.declared.Row.{Row}
-use Rattle.counts.specs.Tally.{tally, Kept}
+use Rattle.counts.specs.Counting.{countsIn, Kept}
 use Rattle.structure.specs.declared.Stand.{Stand}
-use Rattle.structure.specs.declared.Met.{Met}
+use Rattle.structure.specs.declared.FirstFaults.{FirstFaults}
 use Rattle.structure.specs.Rest.{Faults, restFrom}
 
--- a row has a known place, and room for a type and the numbers
+-- a row has a known class, and room for a type and the numbers
 pub record Roomy (r : Row) : Type 0 where
-  pub place : r .place ≤ 5
+  pub class : r .class ≤ 5
   pub type : 3 ≤ r .length
-  pub numbers : at (classAt (r .place)) + width (classAt (r .place)) ≤ r .length
+  pub numbers : at (classAt (r .class)) + width (classAt (r .class)) ≤ r .length
 
--- a place in the file, and counts that no file outgrows
+-- a byte of the file, and counts that no file outgrows
 pub record Bounded (f : Bytes) (s : Stand) : Type 0 where
   pub inside : s .at ≤ length f
-  pub place : s .place ≤ 6
+  pub class : s .class ≤ 6
   pub kept : Kept (s .counts)
   pub few : s .counts .records ≤ s .at
 
@@ -32,7 +32,7 @@ pub record Bounded (f : Bytes) (s : Stand) : Type 0 where
 pub record Stood (f : Bytes) (asked : Bool) (s : Stand) : Type 0 where
   pub bounded : Bounded f s
   pub rest : (version : Bool)
-      → restFrom cwr22 asked version (classAt (s .place)) (tally (s .counts)) (drop (s .at) f) ≡ restFrom cwr22 asked version unknown noneCounted f
+      → restFrom cwr22 asked version (classAt (s .class)) (countsIn (s .counts)) (drop (s .at) f) ≡ restFrom cwr22 asked version unknown noneCounted f
 
 -- the record of that row which stands there is whole, and right in all that is asked
 pub record RightAt (f : Bytes) (asked : Bool) (s : Stand) (r : Row) : Type 0 where
@@ -40,22 +40,22 @@ pub record RightAt (f : Bytes) (asked : Bool) (s : Stand) (r : Row) : Type 0 whe
   pub type : sameBytes (typeOf r) (take 3 (drop (s .at) f)) ≡ true
   pub text : every isText (take (r .length) (drop (s .at) f)) ≡ true
   pub pair : beginsPair (drop (s .at + r .length) f) ≡ true
-  pub follows : mayFollow (classAt (s .place)) (classAt (r .place)) ≡ true
+  pub follows : mayFollow (classAt (s .class)) (classAt (r .class)) ≡ true
   pub numbers :
-      (not asked || sameBytes (slot (classAt (r .place)) (take (r .length) (drop (s .at) f))) (expected (tally (s .counts)) (classAt (r .place)))) ≡ true
+      (not asked || sameBytes (slot (classAt (r .class)) (take (r .length) (drop (s .at) f))) (expected (countsIn (s .counts)) (classAt (r .class)))) ≡ true
 
--- after one record more, of that length and place
+-- after one record more, of that length and class
 pub record Next (s : Stand) (l p : ℕ) (r : Stand) : Type 0 where
   pub at : r .at ≡ s .at + l + 2
-  pub place : r .place ≡ p
-  pub counts : tally (r .counts) ≡ count (tally (s .counts)) (classAt p)
+  pub class : r .class ≡ p
+  pub counts : countsIn (r .counts) ≡ count (countsIn (s .counts)) (classAt p)
   pub kept : Kept (r .counts)
   pub records : r .counts .records ≡ s .counts .records + 1
 
 -- the place of a fault as code has it: 0 for none, else one more
-abbrev pub met : ℕ → Option ℕ
-met zero = none
-met (suc n) = some n
+abbrev pub faultIn : ℕ → Option ℕ
+faultIn zero = none
+faultIn (suc n) = some n
 
-abbrev pub faultsOf : Met → Faults
-faultsOf m = record { seven = met (m .seven); eight = met (m .eight); nine = met (m .nine) }
+abbrev pub faultsOf : FirstFaults → Faults
+faultsOf m = record { seven = faultIn (m .seven); eight = faultIn (m .eight); nine = faultIn (m .nine) }

@@ -26,19 +26,19 @@ ghost use Rattle.format.specs.Structure.{unless, mostBytes, structure};
 ghost use Rattle.format.specs.Numbering.{numbering, recordsIn};
 ghost use Rattle.answers.specs.Numbers.{answerOf};
 ghost use Rattle.kinds.specs.Rows.{rowFor};
-ghost use Rattle.counts.specs.Tally.{tally, Kept, CanGrow};
+ghost use Rattle.counts.specs.Counting.{countsIn, Kept, CanGrow};
 ghost use Rattle.structure.specs.Rest.{orElse, faultless, judgedFrom, restFrom, moreFaults, atEnd, isGood};
-ghost use Rattle.structure.specs.Walk.{Roomy, Bounded, Stood, RightAt, Next, met, faultsOf};
+ghost use Rattle.structure.specs.Walk.{Roomy, Bounded, Stood, RightAt, Next, faultIn, faultsOf};
 
-// Where a walk stands: at a byte of the file, after a record of that place, with these counts.
+// Where a walk stands: at a byte of the file, after a record of that class, with these counts.
 pub struct Stand {
     pub at: usize,
-    pub place: u8,
+    pub class: u8,
     pub counts: Counts,
 }
 
 // The first faults by 7, 8 and 9 that were met: 0 for none, else the place and one.
-pub struct Met {
+pub struct FirstFaults {
     pub seven: u64,
     pub eight: u64,
     pub nine: u64,
@@ -52,7 +52,7 @@ fn index(n: u64) -> usize
     n as usize
 }
 
-// Whether a record of place c may stand after one of place p.
+// Whether a record of class c may stand after one of class p.
 fn follows(p: u8, c: u8) -> bool
     requires { ⌜ (p ≤ 6) × (c ≤ 6) ⌝ }
     ensures { λ r. ⌜ r ≡ mayFollow (classAt p) (classAt c) ⌝ }
@@ -64,37 +64,43 @@ fn follows(p: u8, c: u8) -> bool
         | ((p == GRT) & ((GRH == c) | (TRL == c)))
 }
 
+// Where HDR has its version and its revision, three bytes each.
+const VERSION: usize = 102;
+
+const REVISION: usize = 105;
+
 // 10: HDR's version and revision.
 fn version(record: &[u8]) -> bool
     ensures { λ r. ⌜ r ≡ version22 (now («record» .entry)) ⌝ }
 {
-    let revision = text::part(record, 105, 3);
-    text::is_three(text::part(record, 102, 3), b'2', b'.', b'2')
+    let version = text::part(record, VERSION, 3);
+    let revision = text::part(record, REVISION, 3);
+    text::is_three(version, b'2', b'.', b'2')
         & text::digits(revision)
         & (text::number(revision) <= 2)
 }
 
-// After one record more, of that length and place. (Not of a row: where one is handed on, the compiler keeps it in memory.)
-pub fn after_record(s: Stand, length: u16, place: u8) -> Stand
+// After one record more, of that length and class. (Not of a row: where one is handed on, the compiler keeps it in memory.)
+pub fn after_record(s: Stand, length: u16, class: u8) -> Stand
     requires { ⌜ (s .at ≤ mostBytes) × (Kept (s .counts)) × (s .counts .records ≤ s .at) ⌝ }
-    ensures { λ r. ⌜ Next s length place r ⌝ }
+    ensures { λ r. ⌜ Next s length class r ⌝ }
 {
     let counts = s.counts;
-    let more = counts.with(place);
+    let more = counts.with(class);
     Stand {
         at: s.at + length as usize + 2,
-        place: place,
+        class: class,
         counts: more,
     }
 }
 
 // Whether the record carries its numbers, where they are asked for.
-fn numbered(asked: bool, counts: Counts, place: u8, record: &[u8]) -> bool
-    requires { ⌜ (CanGrow counts) × (at (classAt place) + width (classAt place) ≤ length (now «record»)) ⌝ }
-    ensures { λ r. ⌜ r ≡ (not asked || sameBytes (slot (classAt place) (now («record» .entry))) (expected (tally counts) (classAt place))) ⌝ }
+fn numbered(asked: bool, counts: Counts, class: u8, record: &[u8]) -> bool
+    requires { ⌜ (CanGrow counts) × (at (classAt class) + width (classAt class) ≤ length (now «record»)) ⌝ }
+    ensures { λ r. ⌜ r ≡ (not asked || sameBytes (slot (classAt class) (now («record» .entry))) (expected (countsIn counts) (classAt class))) ⌝ }
 {
     if asked {
-        counts.holds(place, record)
+        counts.holds(class, record)
     } else {
         true
     }
@@ -119,8 +125,8 @@ fn right(file: &[u8], asked: bool, s: Stand, row: Row) -> bool
     kinds::is_type(row, record[0], record[1], record[2])
         & lines::pair_at(file, end)
         & lines::all_text(record)
-        & follows(s.place, row.place)
-        & numbered(asked, counts, row.place, record)
+        & follows(s.class, row.class)
+        & numbered(asked, counts, row.class, record)
 }
 
 // How far a file is right.
@@ -132,7 +138,7 @@ fn walk(file: &[u8], asked: bool) -> Stand
     let none = Counts::zero();
     let mut s = Stand {
         at: 0,
-        place: UNKNOWN,
+        class: UNKNOWN,
         counts: none,
     };
     loop {
@@ -145,7 +151,7 @@ fn walk(file: &[u8], asked: bool) -> Stand
         if !right(file, asked, s, row) {
             return s;
         }
-        s = after_record(s, row.length, row.place);
+        s = after_record(s, row.length, row.class);
     }
 }
 
@@ -154,7 +160,7 @@ fn walk(file: &[u8], asked: bool) -> Stand
 // The first fault: the one that was met, or this record's.
 fn first(fault: u64, ok: bool, place: u64) -> u64
     requires { ⌜ place ≤ mostBytes ⌝ }
-    ensures { λ r. ⌜ met r ≡ orElse (met fault) (unless ok place) ⌝ }
+    ensures { λ r. ⌜ faultIn r ≡ orElse (faultIn fault) (unless ok place) ⌝ }
 {
     if fault != 0 {
         return fault;
@@ -164,37 +170,37 @@ fn first(fault: u64, ok: bool, place: u64) -> u64
 
 // 6: a known type, and its length.
 fn shaped(row: Row, record: &[u8]) -> bool
-    ensures { λ r. ⌜ r ≡ (not (eqb (row .place) 6) && eqb (length (now («record» .entry))) (row .length)) ⌝ }
+    ensures { λ r. ⌜ r ≡ (not (eqb (row .class) 6) && eqb (length (now («record» .entry))) (row .length)) ⌝ }
 {
-    (row.place != UNKNOWN) & (record.len() == row.size())
+    (row.class != UNKNOWN) & (record.len() == row.size())
 }
 
 // The faults met with this record, which is of that row and right by 6.
-fn more(asked: bool, s: Stand, m: Met, record: &[u8], row: Row) -> Met
-    requires { ⌜ (s .place ≤ 6) × (Kept (s .counts)) × (s .counts .records ≤ mostBytes) ⌝ }
+fn more(asked: bool, s: Stand, m: FirstFaults, record: &[u8], row: Row) -> FirstFaults
+    requires { ⌜ (s .class ≤ 6) × (Kept (s .counts)) × (s .counts .records ≤ mostBytes) ⌝ }
     requires { ⌜ (row ≡ rowFor (take 3 (now «record»))) × (typed cwr22 (now «record») ≡ true) ⌝ }
-    ensures { λ r. ⌜ faultsOf r ≡ moreFaults cwr22 asked (faultsOf m) (classAt (s .place)) (tally (s .counts)) (now («record» .entry)) ⌝ }
+    ensures { λ r. ⌜ faultsOf r ≡ moreFaults cwr22 asked (faultsOf m) (classAt (s .class)) (countsIn (s .counts)) (now («record» .entry)) ⌝ }
 {
     let counts = s.counts;
     let n = counts.records;
-    let held = numbered(asked, counts, row.place, record);
-    let closes = (GRT == row.place) | (TRL == row.place);
-    Met {
-        seven: first(m.seven, follows(s.place, row.place), n),
+    let held = numbered(asked, counts, row.class, record);
+    let closes = (GRT == row.class) | (TRL == row.class);
+    FirstFaults {
+        seven: first(m.seven, follows(s.class, row.class), n),
         eight: first(m.eight, closes | held, n),
         nine: first(m.nine, !closes | held, n),
     }
 }
 
 // What is left to say after the last record.
-fn ended(version: bool, s: Stand, m: Met) -> Answer
-    requires { ⌜ s .place ≤ 6 ⌝ }
-    ensures { λ r. ⌜ ((asked : Bool) → answerOf r ≡ atEnd cwr22 asked version (faultsOf m) (classAt (s .place)) (tally (s .counts))) ⌝ }
+fn ended(version: bool, s: Stand, m: FirstFaults) -> Answer
+    requires { ⌜ s .class ≤ 6 ⌝ }
+    ensures { λ r. ⌜ ((asked : Bool) → answerOf r ≡ atEnd cwr22 asked version (faultsOf m) (classAt (s .class)) (countsIn (s .counts))) ⌝ }
 {
     let counts = s.counts;
     if m.seven != 0 {
         Answer::Place(index(m.seven - 1))
-    } else if s.place != TRL {
+    } else if s.class != TRL {
         Answer::Place(index(counts.records))
     } else if m.eight != 0 {
         Answer::Number(index(m.eight - 1))
@@ -210,11 +216,11 @@ fn ended(version: bool, s: Stand, m: Met) -> Answer
 // 6 to 10, from here on, where the lines are good.
 fn judge(file: &[u8], asked: bool, version: bool, start: Stand) -> Answer
     requires { ⌜ (Bounded (now file) start) × (length (now file) ≤ mostBytes) × (isGood (lines (drop (start .at) (now file))) ≡ true) ⌝ }
-    ensures { λ r. ⌜ answerOf r ≡ judgedFrom cwr22 asked version faultless (classAt (start .place)) (tally (start .counts))
+    ensures { λ r. ⌜ answerOf r ≡ judgedFrom cwr22 asked version faultless (classAt (start .class)) (countsIn (start .counts))
         (recordsIn (lines (drop (start .at) (now (file .entry))))) ⌝ }
 {
     let mut s = start;
-    let mut m = Met {
+    let mut m = FirstFaults {
         seven: 0,
         eight: 0,
         nine: 0,
@@ -229,7 +235,7 @@ fn judge(file: &[u8], asked: bool, version: bool, start: Stand) -> Answer
             return Answer::Shape(index(counts.records));
         }
         m = more(asked, s, m, record, row);
-        s = after_record(s, row.length, row.place);
+        s = after_record(s, row.length, row.class);
     }
     ended(version, s, m)
 }
@@ -237,7 +243,7 @@ fn judge(file: &[u8], asked: bool, version: bool, start: Stand) -> Answer
 // 4 to 10, from here on.
 fn scan(file: &[u8], asked: bool, version: bool, s: Stand) -> Answer
     requires { ⌜ (Bounded (now file) s) × (length (now file) ≤ mostBytes) ⌝ }
-    ensures { λ r. ⌜ answerOf r ≡ restFrom cwr22 asked version (classAt (s .place)) (tally (s .counts)) (drop (s .at) (now (file .entry))) ⌝ }
+    ensures { λ r. ⌜ answerOf r ≡ restFrom cwr22 asked version (classAt (s .class)) (countsIn (s .counts)) (drop (s .at) (now (file .entry))) ⌝ }
 {
     let counts = s.counts;
     match lines::lines_from(file, s.at, index(counts.records)) {

@@ -1,2 +1,4 @@
 -- The laws that the proofs cite.
-pub mod Laws
+pub mod Entries
+pub mod Slots
+pub mod Parts

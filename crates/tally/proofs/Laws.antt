@@ -1,26 +1,20 @@
 -- A tally with one detail more. Assumes nothing.
-use Prim.Native.Nat.{ℕ, _+_, _*_, _^_, _≤_, _<_}
+use Prim.Native.Nat.{ℕ, _+_, _*_, _^_, _≤_}
 use native.Mathlib.Omega.{arith}
-use mathlib.Core.Path.{_≡_, refl, ap, _∙_, subst}
-use mathlib.Core.Bool.{true, false, _||_, or-false}
+use mathlib.Core.Path.{_≡_, refl, _∙_, subst}
+use mathlib.Core.Bool.{true, false, _||_}
 use mathlib.Core.List.{List, [], _∷_, _++_}
-use lib.Dec.{eqb}
-use lib.Dec.{lit<}
-use lib.ListN.{length, length-append, getD}
+use lib.ListN.{length, length-append}
 use Rattle.format.specs.Ascii.{ascii}
-use Rattle.format.specs.Bytes.{Bytes, sameBytes, among}
+use Rattle.format.specs.Bytes.{Bytes, sameBytes}
 use Rattle.format.specs.Structure.{mostRecords}
-use Rattle.rules.specs.Tables.{designations}
-use Rattle.rules.specs.Records.{isType, isPublisher, isWriter}
-use Rattle.rules.specs.Writers.{creators, changers, authors}
+use Rattle.rules.specs.Records.{isType, isPublisher}
 use Rattle.rules.proofs.Types.{of-two}
 use Rattle.totals.specs.Sums.{Below}
 use Rattle.totals.specs.declared.Totals.{Totals}
 use Rattle.tally.specs.Marked.{isInstrument}
-use Rattle.edits.specs.Places.{placeOf}
-use Rattle.edits.specs.Before.{sequenceOf, lastSequence}
-use Rattle.edits.proofs.Places.{place-is}
-use Rattle.edits.proofs.Before.{last-more}
+use Rattle.edits.specs.Sequences.{sequenceOf, lastSequence}
+use Rattle.edits.proofs.Sequences.{last-more}
 
 -- ---- what a record is not
 
@@ -30,28 +24,6 @@ publisher-unmarked r e =
     (λ type. ((sameBytes (ascii "INS") type || sameBytes (ascii "IND") type) ≡ false)
     × (sameBytes (ascii "EWT") type ≡ false) × (sameBytes (ascii "VER") type ≡ false))
     (refl, refl, refl) (refl, refl, refl) e
-
-pub instrument-neither : (r : Bytes) → isInstrument r ≡ true → (isPublisher r ≡ false) × (isWriter r ≡ false)
-instrument-neither r e =
-    of-two "INS" "IND" r
-    (λ type. ((sameBytes (ascii "SPU") type || sameBytes (ascii "OPU") type) ≡ false)
-    × ((sameBytes (ascii "SWR") type || sameBytes (ascii "OWR") type) ≡ false))
-    (refl, refl) (refl, refl) e
-
--- ---- designations by their place
-
-module _ (code : Bytes) (place : ℕ) (its : place ≡ placeOf code designations) where
-  at : (k : ℕ) → k < length designations → eqb place k ≡ sameBytes (getD designations k []) code
-  at k h = ap (λ n. eqb n k) its ∙ place-is code designations refl k h
-
-  pub creator-at : among code creators ≡ (eqb place 0 || (eqb place 1 || eqb place 2))
-  creator-at = rw (at 0 (lit< tt), at 1 (lit< tt), at 2 (lit< tt), or-false)
-
-  pub changer-at : among code changers ≡ (eqb place 3 || (eqb place 4 || (eqb place 5 || (eqb place 6 || eqb place 7))))
-  changer-at = rw (at 3 (lit< tt), at 4 (lit< tt), at 5 (lit< tt), at 6 (lit< tt), at 7 (lit< tt), or-false)
-
-  pub author-at : among code authors ≡ (eqb place 0 || (eqb place 1 || (eqb place 6 || eqb place 7)))
-  author-at = rw (at 0 (lit< tt), at 1 (lit< tt), at 6 (lit< tt), at 7 (lit< tt), or-false)
 
 -- ---- the last sequence number
 

@@ -3,7 +3,7 @@ use Prim.Native.Nat.{ℕ, suc, _+_}
 use Prim.Native.String.{String}
 use native.Mathlib.Omega.{arith}
 use mathlib.Core.Path.{_≡_, refl, sym, ap, _∙_}
-use mathlib.Core.Bool.{Bool, true, false, _&&_, _||_, cond, or-comm, false≢true}
+use mathlib.Core.Bool.{Bool, true, false, _&&_, _||_, or-comm, false≢true}
 use mathlib.Core.List.{List, [], _∷_, _++_}
 use lib.Dec.{ltb}
 use lib.ListN.{length, length-append}
@@ -15,7 +15,7 @@ use Rattle.rules.specs.Writer.{designationInForce}
 use Rattle.rules.specs.Writers.{creators, changers, authors}
 use Rattle.rules.specs.Works.{several}
 use Rattle.rules.proofs.Lists.{only-kept, only-left, any-last}
-use Rattle.rules.proofs.Types.{type-is, of-two}
+use Rattle.rules.proofs.Types.{of-two}
 use Rattle.format.proofs.Tests.{by-cases}
 use Rattle.tally.specs.declared.marks.Marks.{Marks}
 use Rattle.tally.specs.Marked.{isInstrument, Marked}
@@ -44,13 +44,20 @@ module _ (type : String) (ds : List Bytes) (r : Bytes) where
   several-kept : isType type r ≡ false → several type (ds ++ r ∷ []) ≡ several type ds
   several-kept e = ap (λ l. ltb 1 (length l)) (only-left (isType type) ds r e)
 
+-- where there is more than one there is one
+any-or-several : (type : String) (ds : List Bytes) → (any (isType type) ds || several type ds) ≡ any (isType type) ds
+any-or-several type ds = rw (any-some (isType type) ds) (least (length (only (isType type) ds)))
+  where
+    least : (n : ℕ) → (ltb 0 n || ltb 1 n) ≡ ltb 0 n
+    least n = by-cases (ltb 0 n) (λ e. rw e) (λ e. rw e (le-ltb 1 n (omega (arith, ltb-false 0 n e))))
+
 -- what is a flag of the record joins the mark
 joined : (ds : List Bytes) (r : Bytes) (p : Bytes → Bool) (b c : Bool) → b ≡ any p ds → p r ≡ c → (c || b) ≡ any p (ds ++ r ∷ [])
 joined ds r p b c e q = sym (any-last p ds r ∙ rw (q, ← e) (or-comm b c))
 
 several-joined : (type : String) (ds : List Bytes) (r : Bytes) (b bs c : Bool) → b ≡ any (isType type) ds → bs ≡ several type ds → isType type r ≡ c
-    → cond c b bs ≡ several type (ds ++ r ∷ [])
-several-joined type ds r b bs true e es q = e ∙ sym (several-on type ds r q)
+    → ((c && b) || bs) ≡ several type (ds ++ r ∷ [])
+several-joined type ds r b bs true e es q = rw (e, es) (any-or-several type ds ∙ sym (several-on type ds r q))
 several-joined type ds r b bs false e es q = es ∙ sym (several-kept type ds r q)
 
 named : (names : List Bytes) (r : Bytes) (w b : Bool) → isWriter r ≡ w → (w ≡ true → among (designationInForce r) names ≡ b)
@@ -68,9 +75,9 @@ marked m w c g a i e v =
       author = (w && a) || m .author;
       instrument = i || m .instrument;
       ewt = e || m .ewt;
-      ewts = cond e (m .ewt) (m .ewts);
+      ewts = (e && m .ewt) || m .ewts;
       ver = v || m .ver;
-      vers = cond v (m .ver) (m .vers);
+      vers = (v && m .ver) || m .vers;
     }
 
 module _ (m : Marks) (ds : List Bytes) (r : Bytes) (h : Marked m ds) where
@@ -92,7 +99,7 @@ module _ (m : Marks) (ds : List Bytes) (r : Bytes) (h : Marked m ds) where
       }
 
   -- no writer, so no designation is asked for
-  other-on : (i e v : Bool) → isWriter r ≡ false → isInstrument r ≡ i → isType "EWT" r ≡ e → isType "VER" r ≡ v
+  pub other-on : (i e v : Bool) → isWriter r ≡ false → isInstrument r ≡ i → isType "EWT" r ≡ e → isType "VER" r ≡ v
       → Marked (marked m false false false false i e v) (ds ++ r ∷ [])
   other-on i e v is-w is-i is-e is-v =
       marked-on false false false false i e v is-w is-i is-e is-v (λ q. absurd (false≢true q)) (λ q. absurd (false≢true q))
@@ -111,17 +118,3 @@ module _ (m : Marks) (ds : List Bytes) (r : Bytes) (h : Marked m ds) where
       (of-two "SWR" "OWR" r (λ t. sameBytes (ascii "EWT") t ≡ false) refl refl is-w)
       (of-two "SWR" "OWR" r (λ t. sameBytes (ascii "VER") t ≡ false) refl refl is-w)
       (λ _. is-c) (λ _. is-g) (λ _. is-a)
-
-  pub instrument-on : isInstrument r ≡ true → Marked (marked m false false false false true false false) (ds ++ r ∷ [])
-  instrument-on is-i =
-      other-on true false false
-      (of-two "INS" "IND" r (λ t. (sameBytes (ascii "SWR") t || sameBytes (ascii "OWR") t) ≡ false) refl refl is-i)
-      is-i
-      (of-two "INS" "IND" r (λ t. sameBytes (ascii "EWT") t ≡ false) refl refl is-i)
-      (of-two "INS" "IND" r (λ t. sameBytes (ascii "VER") t ≡ false) refl refl is-i)
-
-  pub ewt-on : isType "EWT" r ≡ true → Marked (marked m false false false false false true false) (ds ++ r ∷ [])
-  ewt-on is-e = let t = type-is "EWT" r is-e in other-on false true false (rw t) (rw t) is-e (rw t)
-
-  pub ver-on : isType "VER" r ≡ true → Marked (marked m false false false false false false true) (ds ++ r ∷ [])
-  ver-on is-v = let t = type-is "VER" r is-v in other-on false false true (rw t) (rw t) (rw t) is-v

@@ -1,12 +1,18 @@
 // What else of a transaction's details its header is judged by: the writers by their designations (findings 4 to 7 and 10), INS and IND
 // (9), EWT and VER (15).
+use edits::writer::Writer;
+use kinds::EWT;
+use kinds::INSTRUMENT;
+use kinds::Row;
+use kinds::VER;
 ghost use mathlib.Core.Path.{_≡_};
-ghost use mathlib.Core.Bool.{true, _||_};
+ghost use mathlib.Core.Bool.{false};
 ghost use mathlib.Core.List.{List, [], _∷_, _++_};
-ghost use Rattle.format.specs.Bytes.{Bytes, among};
-ghost use Rattle.rules.specs.Records.{isType, isWriter};
-ghost use Rattle.rules.specs.Writer.{designationInForce};
-ghost use Rattle.rules.specs.Writers.{creators, changers, authors};
+ghost use lib.ListN.{take};
+ghost use Rattle.format.specs.Bytes.{Bytes};
+ghost use Rattle.rules.specs.Records.{isWriter};
+ghost use Rattle.kinds.specs.Rows.{rowFor};
+ghost use Rattle.edits.specs.Readings.{WriterReads};
 ghost use Rattle.tally.specs.Marked.{Marked};
 
 pub struct Marks {
@@ -42,43 +48,29 @@ impl Marks {
         }
     }
 
-    // After one writer record more, whose designation is or is not among the creators, the changers and the authors.
-    pub fn with_writer(mut self, creator: bool, changer: bool, author: bool) -> Marks
-        ensures { λ m. ⌜ ((ds : List Bytes) (r : Bytes) → Marked self ds → isWriter r ≡ true
-            → among (designationInForce r) creators ≡ creator → among (designationInForce r) changers ≡ changer
-            → among (designationInForce r) authors ≡ author → Marked m (ds ++ r ∷ [])) ⌝ }
+    // After one writer record more.
+    pub fn with_writer(mut self, w: Writer) -> Marks
+        ensures { λ m. ⌜ ((ds : List Bytes) (r : Bytes) → Marked self ds → WriterReads w r → Marked m (ds ++ r ∷ [])) ⌝ }
     {
         self.writer = true;
-        self.creator = creator | self.creator;
-        self.changer = changer | self.changer;
-        self.author = author | self.author;
+        self.creator = w.creator | self.creator;
+        self.changer = w.changer | self.changer;
+        self.author = w.author | self.author;
         self
     }
 
-    // After one INS or IND more.
-    pub fn with_instrument(mut self) -> Marks
-        ensures { λ m. ⌜ ((ds : List Bytes) (r : Bytes) → Marked self ds → (isType "INS" r || isType "IND" r) ≡ true
+    // After one record more that is no writer.
+    pub fn with_other(mut self, row: Row) -> Marks
+        ensures { λ m. ⌜ ((ds : List Bytes) (r : Bytes) → Marked self ds → row ≡ rowFor (take 3 r) → isWriter r ≡ false
             → Marked m (ds ++ r ∷ [])) ⌝ }
     {
-        self.instrument = true;
-        self
-    }
-
-    // After one EWT more.
-    pub fn with_ewt(mut self) -> Marks
-        ensures { λ m. ⌜ ((ds : List Bytes) (r : Bytes) → Marked self ds → isType "EWT" r ≡ true → Marked m (ds ++ r ∷ [])) ⌝ }
-    {
-        self.ewts = self.ewt;
-        self.ewt = true;
-        self
-    }
-
-    // After one VER more.
-    pub fn with_ver(mut self) -> Marks
-        ensures { λ m. ⌜ ((ds : List Bytes) (r : Bytes) → Marked self ds → isType "VER" r ≡ true → Marked m (ds ++ r ∷ [])) ⌝ }
-    {
-        self.vers = self.ver;
-        self.ver = true;
+        let ewt = row.sort == EWT;
+        let ver = row.sort == VER;
+        self.instrument = (row.sort == INSTRUMENT) | self.instrument;
+        self.ewts = (ewt & self.ewt) | self.ewts;
+        self.ewt = ewt | self.ewt;
+        self.vers = (ver & self.ver) | self.vers;
+        self.ver = ver | self.ver;
         self
     }
 }

@@ -84,8 +84,13 @@ module _ (n : ℕ) (l : List ℕ) where
   same-on s rest zero h inv = absurd (omega arith)
   same-on s rest (suc w) h inv =
       let e : suc w - 1 ≡ w = omega arith in
-      let last = same-snoc (take w l) (decimal w (rest / 10)) (getD l w 0) (48 + rest % 10) (rw length-decimal (length-take-le w l (omega arith))) in
-      (omega arith, rw e (swap s (eqb (getD l w 0) (48 + rest % 10)) (sameBytes (take w l) (decimal w (rest / 10))) ∙ (rw (take-suc l w 0 (inv .0), last) at (inv .1))))
+      let here = getD l w 0 in
+      let digit = 48 + rest % 10 in
+      let others = decimal w (rest / 10) in
+      let last = same-snoc (take w l) others here digit (rw length-decimal (length-take-le w l (omega arith))) in (
+        omega arith,
+        rw e (swap s (eqb here digit) (sameBytes (take w l) others) ∙ (rw (take-suc l w 0 (inv .0), last) at (inv .1))),
+      )
 
   pub same-end : (s : Bool) (rest : ℕ) → Compares n l s rest 0 → s ≡ sameBytes l (decimal (length l) n)
   unfolding decimal

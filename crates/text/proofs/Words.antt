@@ -1,18 +1,18 @@
 -- Words: that they keep their bytes, that two are the same where their bytes are, and how the word of a number's digits grows by one.
 use mathlib.Core.Path.{_≡_, refl, sym, ap, _∙_}
 use mathlib.Core.Bool.{Bool, true, false, _&&_, false≢true}
-use mathlib.Core.List.{[], _∷_, _++_}
+use mathlib.Core.List.{[], _∷_, _++_, append-nil}
 use Prim.Native.Nat.{ℕ, zero, suc, _+_, _-_, _*_, _/_, _%_, _^_, _<_, _≤_}
 use native.Mathlib.Nat.{pow-succ', mul-add, mul-assoc, mul-one, mul-le-mul-left}
 use native.Mathlib.Omega.{arith}
 use lib.Dec.{ltb, leb, eqb}
-use lib.ListN.{length, getD}
-use lib.Seq.{sets}
+use lib.ListN.{length, getD, drop-of-length-le}
+use lib.Seq.{sets, sets-eq}
 use borrow.Author.Tests.{eqb-true, eqb-false, eq-eqb, lt-ltb, leb-true, leb-false}
-use Rattle.format.specs.Bytes.{Bytes, All, sameBytes, decimal}
+use Rattle.format.specs.Bytes.{Bytes, All, sameBytes, decimal, bytesOf}
 use Rattle.format.proofs.Decimal.{length-decimal}
 use Rattle.format.proofs.Logic.{All-append}
-use Rattle.text.specs.Words.{wordOf, bytesOf}
+use Rattle.text.specs.Words.{wordOf}
 
 -- ---- bytes
 
@@ -39,11 +39,6 @@ bytes-kept (b ∷ l) h =
 
 pub digits-kept : (x n : ℕ) → x ≡ wordOf (decimal 8 n) → bytesOf 8 x ≡ decimal 8 n
 digits-kept x n e = rw e (rw length-decimal at (bytes-kept (decimal 8 n) (digits-are-bytes 8 n)))
-
-pub length-bytes : (w x : ℕ) → length (bytesOf w x) ≡ w
-unfolding bytesOf
-length-bytes zero x = refl
-length-bytes (suc w) x = ap suc (length-bytes w (x / 256))
 
 -- ---- eight bytes
 
@@ -76,13 +71,11 @@ module _ (l : Bytes) (h : length l ≡ 8) where
       let kept = bytes-kept l (are-bytes l b) in
       (word, rw word (ap (λ (w : ℕ). bytesOf w (wordOf l)) (sym h) ∙ kept))
 
-  pub eight-stored : (x : ℕ)
-      → sets l 0 (x % 256 ∷ x / 256 % 256 ∷ x / 256 / 256 % 256 ∷ x / 256 / 256 / 256 % 256 ∷ x / 256 / 256 / 256 / 256 % 256
-      ∷ x / 256 / 256 / 256 / 256 / 256 % 256 ∷ x / 256 / 256 / 256 / 256 / 256 / 256 % 256 ∷ x / 256 / 256 / 256 / 256 / 256 / 256 / 256 % 256 ∷ [])
-      ≡ bytesOf 8 x
-  unfolding bytesOf
-  eight-stored x = ap (λ (k : Bytes). sets k 0 (x % 256 ∷ x / 256 % 256 ∷ x / 256 / 256 % 256 ∷ x / 256 / 256 / 256 % 256 ∷ x / 256 / 256 / 256 / 256 % 256
-      ∷ x / 256 / 256 / 256 / 256 / 256 % 256 ∷ x / 256 / 256 / 256 / 256 / 256 / 256 % 256 ∷ x / 256 / 256 / 256 / 256 / 256 / 256 / 256 % 256 ∷ [])) (eight-is l h)
+pub stores : (l : Bytes) (x : ℕ) → length l ≡ 8 → sets l 0 (bytesOf 8 x) ≡ bytesOf 8 x
+unfolding bytesOf
+stores l x h =
+    sets-eq (bytesOf 8 x) l 0 (let e : 8 ≤ length l = omega arith in e)
+    ∙ rw (drop-of-length-le l {i = 8} (omega arith)) (append-nil (bytesOf 8 x))
 
 -- ---- two words are the same where their bytes are
 
@@ -211,7 +204,8 @@ module _ (n number rest unit zeros : ℕ) where
       let h = leb-true (57 * unit) rest (last w t) in
       let nine = is-nine w C h in
       let down : suc w - 1 ≡ w = omega arith in
-      let owed : zeros + 48 * unit + wordOf (decimal w (number / 10 + 1)) ≡ wordOf (decimal 8 (n + 1)) = omega (arith, C .owed, C .counts, next-nine w number nine) in (
+      let owed : zeros + 48 * unit + wordOf (decimal w (number / 10 + 1)) ≡ wordOf (decimal 8 (n + 1)) =
+      omega (arith, C .owed, C .counts, next-nine w number nine) in (
         omega arith,
         h,
         omega (arith, owed, eight-below (n + 1)),
@@ -229,6 +223,9 @@ module _ (n number rest unit zeros : ℕ) where
       → (zeros + (unit + rest) ≡ wordOf (decimal 8 (n + 1))) × (zeros + (unit + rest) < 18446744073709551616)
   carry-end i C t = let e = go i C t in (e, omega (arith, e, eight-below (n + 1)))
     where
-      go : (i : ℕ) → Carrying n i number rest unit zeros → (ltb 0 i && leb (57 * unit) rest) ≡ false → zeros + (unit + rest) ≡ wordOf (decimal 8 (n + 1))
+      go : (i : ℕ) → Carrying n i number rest unit zeros → (ltb 0 i && leb (57 * unit) rest) ≡ false
+          → zeros + (unit + rest) ≡ wordOf (decimal 8 (n + 1))
       go zero C t = none C
-      go (suc w) C t = let h = leb-false (57 * unit) rest (last w t) in omega (arith, C .owed, C .left, C .counts, next-plain w number (no-nine w C h))
+      go (suc w) C t =
+          let h = leb-false (57 * unit) rest (last w t) in
+          omega (arith, C .owed, C .left, C .counts, next-plain w number (no-nine w C h))

@@ -3,8 +3,9 @@ ghost use mathlib.Core.Path.{_≡_};
 ghost use mathlib.Core.List.{[], _∷_};
 ghost use Prim.Native.Nat.{_+_, _-_, _%_, _^_, _<_, _≤_};
 ghost use lib.ListN.{length};
-ghost use Rattle.format.specs.Bytes.{sameBytes, decimal};
-ghost use Rattle.text.specs.Words.{wordOf, bytesOf};
+ghost use lib.Dec.{eqb};
+ghost use Rattle.format.specs.Bytes.{every, sameBytes, decimal, bytesOf};
+ghost use Rattle.text.specs.Words.{wordOf};
 ghost use Rattle.format.specs.Fields.{fieldOf, isBlank, isDigit, areDigits, digit, numberOf};
 
 // The part of a record with this start, counted from 1, and this size: lent, not copied.
@@ -46,13 +47,13 @@ pub fn is_three(field: &[u8], a: u8, b: u8, c: u8) -> bool
     (field[0] == a) & (field[1] == b) & (field[2] == c)
 }
 
-// Whether each byte is a space, as it is in an empty field.
-pub fn blank(field: &[u8]) -> bool
-    ensures { λ r. ⌜ r ≡ isBlank (now (field .entry)) ⌝ }
+// Whether each byte is this one, as it is in an empty field.
+pub fn filled(field: &[u8], b: u8) -> bool
+    ensures { λ r. ⌜ r ≡ every (λ x. eqb x b) (now (field .entry)) ⌝ }
 {
     let mut i = 0;
     while i < field.len() {
-        if field[i] != 32 {
+        if field[i] != b {
             return false;
         }
         i += 1;
@@ -60,10 +61,17 @@ pub fn blank(field: &[u8]) -> bool
     true
 }
 
+// Whether each byte is a space.
+pub fn blank(field: &[u8]) -> bool
+    ensures { λ r. ⌜ r ≡ isBlank (now (field .entry)) ⌝ }
+{
+    filled(field, b' ')
+}
+
 pub fn is_digit(b: u8) -> bool
     ensures { λ r. ⌜ r ≡ isDigit b ⌝ }
 {
-    (48 <= b) & (b <= 57)
+    (b'0' <= b) & (b <= b'9')
 }
 
 // Whether each byte is a digit, as it is in an empty field.
@@ -85,7 +93,7 @@ pub fn digit(b: u8) -> u64
     ensures { λ r. ⌜ r ≡ digit b ⌝ }
     ensures { λ r. ⌜ r ≤ 9 ⌝ }
 {
-    if is_digit(b) { (b - 48) as u64 } else { 0 }
+    if is_digit(b) { (b - b'0') as u64 } else { 0 }
 }
 
 // The number that a field's digits write. Nineteen are the most that always fit.
@@ -111,7 +119,7 @@ pub fn decimal(n: u64, out: &mut [u8])
     let mut i = out.len();
     while 0 < i {
         i -= 1;
-        out[i] = 48 + (rest % 10) as u8;
+        out[i] = b'0' + (rest % 10) as u8;
         rest = rest / 10;
     }
 }
@@ -125,7 +133,7 @@ pub fn is_decimal(n: u64, part: &[u8]) -> bool
     let mut i = part.len();
     while 0 < i {
         i -= 1;
-        same = same & (part[i] == 48 + (rest % 10) as u8);
+        same = same & (part[i] == b'0' + (rest % 10) as u8);
         rest = rest / 10;
     }
     same
@@ -133,18 +141,12 @@ pub fn is_decimal(n: u64, part: &[u8]) -> bool
 
 // ---- eight bytes as one word, so that they are compared and written at once
 
-fn wide(b: u8) -> u64
+// A byte as a number with room for more.
+pub fn wide(b: u8) -> u64
     ensures { λ r. ⌜ r ≡ b ⌝ }
     ensures { λ r. ⌜ r ≤ 255 ⌝ }
 {
     b as u64
-}
-
-// The first byte of a word.
-fn low(x: u64) -> u8
-    ensures { λ r. ⌜ r ≡ x % 256 ⌝ }
-{
-    (x % 256) as u8
 }
 
 // The word of eight bytes. In this order the compiler makes one load of it.
@@ -176,21 +178,21 @@ pub fn store_eight(x: u64, out: &mut [u8])
     requires { ⌜ length (now out) ≡ 8 ⌝ }
     ensures { λ _. ⌜ now (out .exit) ≡ bytesOf 8 x ⌝ }
 {
+    out[0] = (x % 256) as u8;
     let a = x / 256;
+    out[1] = (a % 256) as u8;
     let b = a / 256;
+    out[2] = (b % 256) as u8;
     let c = b / 256;
+    out[3] = (c % 256) as u8;
     let d = c / 256;
+    out[4] = (d % 256) as u8;
     let e = d / 256;
+    out[5] = (e % 256) as u8;
     let f = e / 256;
+    out[6] = (f % 256) as u8;
     let g = f / 256;
-    out[0] = low(x);
-    out[1] = low(a);
-    out[2] = low(b);
-    out[3] = low(c);
-    out[4] = low(d);
-    out[5] = low(e);
-    out[6] = low(f);
-    out[7] = low(g);
+    out[7] = (g % 256) as u8;
 }
 
 // The word of the digits of n + 1, from that of the digits of n. A last digit below 9 grows by one; a 9 becomes 0, and then the digits

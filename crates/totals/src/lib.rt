@@ -30,9 +30,9 @@ impl Rights {
     {
         let zero = Share::zero();
         Rights {
-            pr: zero.0,
-            mr: zero.0,
-            sr: zero.0,
+            pr: zero.counts,
+            mr: zero.counts,
+            sr: zero.counts,
         }
     }
 

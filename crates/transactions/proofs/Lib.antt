@@ -1,3 +1,6 @@
+pub mod Levels
+pub mod Sizes
+pub mod Entries
 pub mod Laws
-pub mod Going
+pub mod Gone
 pub mod Fronts

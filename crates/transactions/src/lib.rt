@@ -1,82 +1,82 @@
 // One transaction of a file that is right by 3 to 10: its details are judged and counted one by one, then its header is judged by what
 // was counted. Each record's set and verdict is written as it comes.
-use buffers::raise;
-use buffers::settle;
 use chains::Met;
-use details::Publisher;
-use details::Step;
 use findings::TR;
+use headers::Head;
 use headers::Links;
 use kinds::DETAIL;
-use kinds::PUBLISHER;
 use kinds::Row;
 use tally::Tally;
 ghost use mathlib.Core.Path.{_≡_};
-ghost use mathlib.Core.Bool.{Bool, cond};
+ghost use mathlib.Core.Bool.{Bool, true};
 ghost use mathlib.Core.List.{List};
-ghost use Prim.Native.Nat.{ℕ, _+_, _*_, _<_, _≤_};
-ghost use lib.ListN.{length};
-ghost use Rattle.format.specs.Bytes.{Bytes};
-ghost use Rattle.format.specs.Table.{Class, head};
+ghost use Prim.Native.Nat.{ℕ, _+_, _^_, _<_, _≤_};
+ghost use lib.ListN.{length, take, drop};
+ghost use Rattle.format.specs.Bytes.{Bytes, sameBytes};
+ghost use Rattle.format.specs.Table.{head};
 ghost use Rattle.format.specs.Cwr22.{cwr22};
 ghost use Rattle.format.specs.Checks.{cls};
 ghost use Rattle.format.specs.Structure.{mostBytes, firstOf};
-ghost use Rattle.rules.specs.Tables.{Tables, tablesOf};
+ghost use Rattle.format.specs.Tree.{span, isDetail};
+ghost use Rattle.rules.specs.Tables.{Tables};
+ghost use Rattle.rules.specs.Values.{largestTolerance};
 ghost use Rattle.tables.specs.Index.{Indexed};
+ghost use Rattle.kinds.specs.Rows.{typeOf, rowFor};
 ghost use Rattle.chains.specs.Tallies.{chainsOf, Tallied};
-ghost use Rattle.headers.specs.Headed.{Linked};
+ghost use Rattle.totals.specs.Sums.{Below};
+ghost use Rattle.tally.specs.Known.{Known};
+ghost use Rattle.headers.specs.Headed.{Linked, Headed};
 ghost use Rattle.structure.specs.Cursor.{Here};
-ghost use Rattle.transactions.specs.Walk.{restAt, Prepared, Room, GoesOn, Done, Transacted};
+ghost use Rattle.transactions.specs.Walk.{restAt, frontOf, Prepared, Room, PastDetails, FilledDetails, PastTransaction, FilledTransaction};
 
-// Where the walk over a transaction's details stands: at a byte of the file, before a record of that number; what is known of the details
-// so far, and whether one of them has a finding that rejects the transaction.
+// Where the walk over a transaction's details stands: at a byte of the file, before a record of that number; and what is known of the
+// details so far.
 pub struct Walk {
     pub at: usize,
     pub index: usize,
     pub tally: Tally,
-    pub rejects: bool,
 }
 
-// After the last detail: what its chains have of findings 11 to 14, and the place of the record that follows.
+// After the last detail, with the shares' totals in the walk's tally: what the chains have of findings 11 to 14, the class of the record
+// that follows, and whether a detail has a finding that rejects the transaction.
 pub struct Details {
     pub walk: Walk,
     pub links: Links,
-    pub place: u8,
+    pub class: u8,
+    pub rejects: bool,
 }
 
-// After one detail more, of that row, which is written.
-fn on(w: Walk, row: Row, s: Step, verdicts: &mut [u8], findings: &mut [u8]) -> Walk
-    requires { ⌜ (w .at + row .length + 2 ≤ mostBytes)
-        × (w .index < length (now verdicts)) × (8 * (w .index + 1) ≤ length (now findings)) ⌝ }
-    ensures { λ o. ⌜ GoesOn w row s o (now (verdicts .entry)) (now (findings .entry)) (now (verdicts .exit)) (now (findings .exit)) ⌝ }
+// Where the row of the record that begins at this byte may stand.
+fn hint_at(file: &[u8], at: usize) -> usize
+    requires { ⌜ at + 3 ≤ length (now file) ⌝ }
+    ensures { λ r. ⌜ r < 38 ⌝ }
 {
-    let i = w.index;
-    let found = s.found;
-    let more = s.tally;
-    settle(i, found.set, found.level, verdicts, findings);
-    Walk {
-        at: w.at + row.size() + 2,
-        index: i + 1,
-        tally: more,
-        rejects: w.rejects | (found.level == TR),
-    }
+    kinds::hint(file[at], file[at + 1], file[at + 2])
+}
+
+// The row of that record: the one hinted at, where it is of the record's type.
+fn row_at(hinted: Row, file: &[u8], at: usize) -> Row
+    requires { ⌜ (at + 3 ≤ length (now file)) × ((type : Bytes) → sameBytes (typeOf hinted) type ≡ true → hinted ≡ rowFor type) ⌝ }
+    ensures { λ r. ⌜ r ≡ rowFor (take 3 (drop at (now (file .entry)))) ⌝ }
+{
+    kinds::confirmed_row(hinted, &file[at..])
 }
 
 // The details that stand here, after a header; the first of them is that record of the file.
-pub fn judge_details(
+fn judge_details(
     file: &[u8],
     start: usize,
     first: usize,
-    societies: &[u8],
-    slots: &[u16],
+    slots: &tables::Slots,
     verdicts: &mut [u8],
     findings: &mut [u8],
 ) -> Details
     requires { ⌜ (length (now file) ≤ mostBytes) × Here (now file) start head (restAt (now file) start)
-        × Room first (length (restAt (now file) start)) (length (now verdicts)) (length (now findings)) ⌝ }
-    requires { ⌜ Indexed 3 (now societies) (now slots) ⌝ }
-    ensures { λ d. ⌜ ((tables : Tables) → tables .societies ≡ now (societies .entry)
-        → Done tables (now (file .entry)) first (restAt (now (file .entry)) start) d
+        × Room (first + length (restAt (now file) start)) (length (now verdicts)) (length (now findings)) ⌝ }
+    requires { ⌜ Prepared (now slots) ⌝ }
+    ensures { λ d. ⌜ PastDetails (now (file .entry)) (first + length (restAt (now (file .entry)) start)) (restAt (now (file .entry)) start) d ⌝ }
+    ensures { λ d. ⌜ ((tables : Tables) → Indexed tables (now (slots .entry))
+        → FilledDetails tables first (d .walk .index) (span (isDetail cwr22) (restAt (now (file .entry)) start)) (d .rejects)
         (now (verdicts .entry)) (now (findings .entry)) (now (verdicts .exit)) (now (findings .exit))) ⌝ }
 {
     let rows = kinds::table();
@@ -95,33 +95,44 @@ pub fn judge_details(
         at: start,
         index: first,
         tally: none,
-        rejects: false,
     };
+    let mut rejects = false;
     loop {
         let at = w.at;
-        let k = kinds::hint(file[at], file[at + 1], file[at + 2]);
-        let row = kinds::confirmed_row(rows[k], &file[at..]);
-        if row.place != DETAIL {
+        let k = hint_at(file, at);
+        let row = row_at(rows[k], file, at);
+        if row.class != DETAIL {
             let links = links_of(met, &begun, &sums);
             return Details {
                 walk: w,
                 links: links,
-                place: row.place,
+                class: row.class,
+                rejects: rejects,
             };
         }
         let end = at + row.size();
-        let record = &file[at..end];
-        let y = w.tally;
-        if row.sort == PUBLISHER {
-            let p = Publisher::read(record);
-            let known = p.is_known(&own);
-            let s = p.judged(record, row, y, known, societies, slots);
-            met = p.join(met, &mut begun, &mut es, &mut own, &mut paid, &mut sums);
-            w = on(w, row, s, verdicts, findings);
-        } else {
-            let s = details::other(record, row, y);
-            w = on(w, row, s, verdicts, findings);
-        }
+        let s = details::judge(
+            &file[at..end],
+            row,
+            w.tally,
+            met,
+            slots,
+            &mut begun,
+            &mut es,
+            &mut own,
+            &mut paid,
+            &mut sums,
+        );
+        met = s.met;
+        let found = s.found;
+        buffers::settle(w.index, found.set, found.level, verdicts, findings);
+        rejects = rejects | (found.level == TR);
+        let more = s.tally;
+        w = Walk {
+            at: end + 2,
+            index: w.index + 1,
+            tally: more,
+        };
     }
 }
 
@@ -138,21 +149,34 @@ fn links_of(met: Met, begun: &[u8; 100], sums: &[u64; 100]) -> Links
     }
 }
 
-// After a transaction: where the next record begins, its number and its place; whether the header has finding 0.
+// The header that stands here, by what is known of its details. named is the type that GRH names, and t the tolerance.
+fn judge_header(
+    file: &[u8],
+    at: usize,
+    named: &[u8],
+    t: u64,
+    slots: &tables::Slots,
+    y: Tally,
+    links: Links,
+) -> Head
+    requires { ⌜ (length (now file) ≤ mostBytes) × Here (now file) at head (restAt (now file) at)
+        × (cls cwr22 (firstOf (restAt (now file) at)) ≡ head) ⌝ }
+    requires { ⌜ (t ≤ largestTolerance) × Below (2 ^ 60) (y .totals) ⌝ }
+    ensures { λ h. ⌜ ((tables : Tables) (ds : List Bytes) → Indexed tables (now (slots .entry)) → Known y ds → Linked links ds
+        → Headed tables t (now (named .entry)) (record { header = firstOf (restAt (now (file .entry)) at); details = ds }) h) ⌝ }
+{
+    let end = at + kinds::HEADER_LENGTH as usize;
+    let header = &file[at..end];
+    let own = edits::header::judge(header, slots);
+    headers::judge(header, named, own, y, links, t)
+}
+
+// After a transaction: where the next record begins, its number and its class; whether the header has finding 0.
 pub struct Passed {
     pub at: usize,
     pub index: usize,
-    pub place: u8,
+    pub class: u8,
     pub stray: bool,
-}
-
-// How long a header is.
-const HEADER: usize = 260;
-
-fn least_verdict(rejects: bool) -> u8
-    ensures { λ r. ⌜ r ≡ cond rejects 3 0 ⌝ }
-{
-    if rejects { TR } else { 0 }
 }
 
 // One transaction, whose header stands here and is that record of the file, in a group whose GRH names that type.
@@ -162,54 +186,40 @@ pub fn judge_transaction(
     index: usize,
     named: &[u8],
     t: u64,
-    languages: &[u8],
-    language_slots: &[u16],
-    societies: &[u8],
-    society_slots: &[u16],
-    categories: &[u8],
-    category_slots: &[u16],
+    slots: &tables::Slots,
     verdicts: &mut [u8],
     findings: &mut [u8],
 ) -> Passed
-    requires { ⌜ (length (now file) ≤ mostBytes) × ((c : Class) × Here (now file) at c (restAt (now file) at))
+    requires { ⌜ (length (now file) ≤ mostBytes) × Here (now file) at head (restAt (now file) at)
         × (cls cwr22 (firstOf (restAt (now file) at)) ≡ head)
-        × Room index (length (restAt (now file) at)) (length (now verdicts)) (length (now findings)) ⌝ }
-    requires { ⌜ Prepared t (now languages) (now «language_slots») (now societies) (now «society_slots»)
-        (now categories) (now «category_slots») ⌝ }
-    ensures { λ p. ⌜ Transacted (tablesOf (now (languages .entry)) (now (societies .entry)) (now (categories .entry)))
-        t (now (named .entry)) (now (file .entry)) index (restAt (now (file .entry)) at) p
-        (now (verdicts .entry)) (now (findings .entry)) (now (verdicts .exit)) (now (findings .exit)) ⌝ }
+        × Room (index + length (restAt (now file) at)) (length (now verdicts)) (length (now findings)) ⌝ }
+    requires { ⌜ (t ≤ largestTolerance) × Prepared (now slots) ⌝ }
+    ensures { λ p. ⌜ PastTransaction (now (named .entry)) (now (file .entry)) (index + length (restAt (now (file .entry)) at))
+        (restAt (now (file .entry)) at) p ⌝ }
+    ensures { λ p. ⌜ ((tables : Tables) → Indexed tables (now (slots .entry))
+        → FilledTransaction tables t (now (named .entry)) index (p .index) (frontOf (restAt (now (file .entry)) at))
+        (now (verdicts .entry)) (now (findings .entry)) (now (verdicts .exit)) (now (findings .exit))) ⌝ }
 {
-    let end = at + HEADER;
-    let header = &file[at..end];
-    let own = edits::header::judge(
-        header,
-        languages,
-        language_slots,
-        categories,
-        category_slots,
-    );
     let d = judge_details(
         file,
-        end + 2,
+        at + kinds::HEADER_LENGTH as usize + 2,
         index + 1,
-        societies,
-        society_slots,
+        slots,
         verdicts,
         findings,
     );
     let w = d.walk;
-    let links = d.links;
     let y = w.tally;
-    let h = headers::judge(header, named, own, y, links, t);
-    settle(index, h.set, h.level, verdicts, findings);
+    let links = d.links;
+    let h = judge_header(file, at, named, t, slots, y, links);
+    buffers::settle(index, h.set, h.level, verdicts, findings);
     let e = w.index;
-    let least = least_verdict(h.rejects | w.rejects);
-    raise(&mut verdicts[index..e], least);
+    let least = buffers::least(h.rejects | d.rejects, TR);
+    buffers::raise(&mut verdicts[index..e], least);
     Passed {
         at: w.at,
         index: e,
-        place: d.place,
+        class: d.class,
         stray: h.stray,
     }
 }

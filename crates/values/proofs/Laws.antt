@@ -1,7 +1,7 @@
 -- A field of a fixed width byte by byte, and what its bytes make of it. Assumes nothing.
 use mathlib.Core.Path.{_≡_, refl, sym, ap, _∙_}
 use mathlib.Core.Bool.{Bool, true, false, cond, _&&_, and-true, and-false, and-assoc}
-use mathlib.Core.List.{[], _∷_}
+use mathlib.Core.List.{List, [], _∷_}
 use Prim.Native.Nat.{ℕ, zero, suc, _+_, _-_, _*_, _<_, _≤_}
 use native.Mathlib.Numerals.{sub-one}
 use native.Mathlib.Omega.{arith}
@@ -60,12 +60,15 @@ february : (b : Bool) → 28 + cond b 1 0 ≡ cond b 29 28
 february true = refl
 february false = refl
 
-length-at : (y i : ℕ) → getD (31 ∷ 28 ∷ 31 ∷ 30 ∷ 31 ∷ 30 ∷ 31 ∷ 31 ∷ 30 ∷ 31 ∷ 30 ∷ 31 ∷ []) i 0 + cond (eqb i 1 && leapYear y) 1 0 ≡ getD (monthLengths y) i 0
+abbrev pub commonYear : List ℕ
+commonYear = 31 ∷ 28 ∷ 31 ∷ 30 ∷ 31 ∷ 30 ∷ 31 ∷ 31 ∷ 30 ∷ 31 ∷ 30 ∷ 31 ∷ []
+
+length-at : (y i : ℕ) → getD commonYear i 0 + cond (eqb i 1 && leapYear y) 1 0 ≡ getD (monthLengths y) i 0
 length-at y zero = refl
 length-at y (suc zero) = february (leapYear y)
 length-at y (suc (suc i)) = rw (ne-eqb (suc (suc i)) 1 (λ e. omega arith)) (omega arith)
 
-pub month : (y m : ℕ) → 1 ≤ m → getD (31 ∷ 28 ∷ 31 ∷ 30 ∷ 31 ∷ 30 ∷ 31 ∷ 31 ∷ 30 ∷ 31 ∷ 30 ∷ 31 ∷ []) (m - 1) 0 + cond (eqb m 2 && leapYear y) 1 0 ≡ daysIn y m
+pub month : (y m : ℕ) → 1 ≤ m → getD commonYear (m - 1) 0 + cond (eqb m 2 && leapYear y) 1 0 ≡ daysIn y m
 unfolding daysIn
 month y zero h = absurd (omega arith)
 month y (suc i) h = rw (sub-one, eqb·suc-suc i 1) (length-at y i)
@@ -84,7 +87,8 @@ pub date-is : (l : Bytes) → length l ≡ 8
     → ((areDigits (getD l 0 0 ∷ getD l 1 0 ∷ [])
     && (areDigits (getD l 2 0 ∷ getD l 3 0 ∷ [])
     && (areDigits (getD l 4 0 ∷ getD l 5 0 ∷ []) && areDigits (getD l 6 0 ∷ getD l 7 0 ∷ []))))
-    && isDay (100 * numberOf (getD l 0 0 ∷ getD l 1 0 ∷ []) + numberOf (getD l 2 0 ∷ getD l 3 0 ∷ [])) (numberOf (getD l 4 0 ∷ getD l 5 0 ∷ [])) (numberOf (getD l 6 0 ∷ getD l 7 0 ∷ [])))
+    && isDay (100 * numberOf (getD l 0 0 ∷ getD l 1 0 ∷ []) + numberOf (getD l 2 0 ∷ getD l 3 0 ∷ []))
+    (numberOf (getD l 4 0 ∷ getD l 5 0 ∷ [])) (numberOf (getD l 6 0 ∷ getD l 7 0 ∷ [])))
     ≡ isDate l
 unfolding isDate fieldOf
 date-is l h = rw (digits-on, digits-on, digits-on, number-four) (ap isDate (spelled 8 l h))

@@ -1,26 +1,20 @@
 // What a field may hold beyond digits: zeros, a date, a duration, an ISWC, a share. Where the width is fixed the bytes are looked at one
 // by one, with no loop: nearly every record has shares or dates.
 ghost use mathlib.Core.Path.{_≡_};
-ghost use mathlib.Core.Bool.{not, cond, _&&_};
+ghost use mathlib.Core.Bool.{_&&_};
 ghost use mathlib.Core.List.{[], _∷_};
 ghost use Prim.Native.Nat.{_+_, _-_, _≤_};
-ghost use lib.Dec.{leb, ltb};
+ghost use lib.Dec.{leb};
 ghost use lib.ListN.{length};
 ghost use Rattle.format.specs.Fields.{fieldOf, areDigits, numberOf};
-ghost use Rattle.rules.specs.Values.{areZeros, leapYear, daysIn, isDay, isDate, isDuration, iswcSum, isIswc, fullShare, largestTolerance, shareOf, badShare};
+ghost use Rattle.rules.specs.Values.{areZeros, leapYear, daysIn, isDay, isDate, isDuration, iswcSum, isIswc};
+ghost use Rattle.rules.specs.Values.{fullShare, largestTolerance, shareOf, badShare};
 
 // Whether each byte is a zero, as it is in an empty field.
 pub fn zeros(field: &[u8]) -> bool
     ensures { λ r. ⌜ r ≡ areZeros (now (field .entry)) ⌝ }
 {
-    let mut i = 0;
-    while i < field.len() {
-        if field[i] != 48 {
-            return false;
-        }
-        i += 1;
-    }
-    true
+    text::filled(field, b'0')
 }
 
 // ---- two bytes
@@ -51,25 +45,11 @@ fn leap_year(y: u64) -> bool
 // The months of a common year.
 const LENGTHS: [u8; 12] = [31, 28, 31, 30, 31, 30, 31, 31, 30, 31, 30, 31];
 
-fn wide(b: u8) -> u64
-    ensures { λ r. ⌜ r ≡ b ⌝ }
-    ensures { λ r. ⌜ r ≤ 255 ⌝ }
-{
-    b as u64
-}
-
-fn one(c: bool) -> u64
-    ensures { λ r. ⌜ r ≡ cond c 1 0 ⌝ }
-    ensures { λ r. ⌜ r ≤ 1 ⌝ }
-{
-    if c { 1 } else { 0 }
-}
-
 fn days_in(y: u64, m: usize) -> u64
     requires { ⌜ (1 ≤ m) × (m ≤ 12) ⌝ }
     ensures { λ r. ⌜ r ≡ daysIn y m ⌝ }
 {
-    wide(LENGTHS[m - 1]) + one((m == 2) & leap_year(y))
+    text::wide(LENGTHS[m - 1]) + either::bit((m == 2) & leap_year(y))
 }
 
 fn is_day(y: u64, m: u64, d: u64) -> bool
@@ -143,33 +123,16 @@ pub fn iswc(field: &[u8]) -> bool
     requires { ⌜ length (now field) ≡ 11 ⌝ }
     ensures { λ r. ⌜ r ≡ isIswc (now (field .entry)) ⌝ }
 {
-    (84 == field[0]) & ten_digits(field) & (iswc_sum(field) % 10 == 0)
+    (b'T' == field[0]) & ten_digits(field) & (iswc_sum(field) % 10 == 0)
 }
 
-// ---- a share
+// ---- a share, in hundredths of a percent
 
-// What the five bytes of a share field say: whether they are digits, and the number that those of them write which are.
-pub struct ShareField {
-    pub digits: bool,
-    pub number: u64,
+// A share field as it is read: what it counts, 0 where it isn't five digits; and whether it isn't, or is over the most that it may be.
+pub struct Share {
+    pub counts: u64,
+    pub bad: bool,
 }
-
-impl ShareField {
-    pub fn read(field: &[u8]) -> ShareField
-        requires { ⌜ length (now field) ≡ 5 ⌝ }
-        ensures { λ r. ⌜ (r .digits ≡ areDigits (now (field .entry))) × (r .number ≡ numberOf (now (field .entry))) × (r .number ≤ 99999) ⌝ }
-    {
-        let digits = are_digits(field[0], field[1])
-            & (are_digits(field[2], field[3]) & text::is_digit(field[4]));
-        let number = 1000 * number(field[0], field[1])
-            + 10 * number(field[2], field[3])
-            + text::digit(field[4]);
-        ShareField { digits, number }
-    }
-}
-
-// A share, in hundredths of a percent.
-pub struct Share(pub u64);
 
 impl Share {
     pub const FULL: u64 = 10000;
@@ -180,45 +143,37 @@ impl Share {
     // The largest tolerance.
     pub const SLACK: u64 = 6;
 
+    // No share.
     pub fn zero() -> Share
-        ensures { λ r. ⌜ r .0 ≡ 0 ⌝ }
+        ensures { λ r. ⌜ r .counts ≡ 0 ⌝ }
     {
-        Share(0)
-    }
-
-    // What a share field counts: 0 where it isn't five digits.
-    pub fn of(field: &[u8]) -> Share
-        requires { ⌜ length (now field) ≡ 5 ⌝ }
-        ensures { λ r. ⌜ (r .0 ≡ shareOf (now (field .entry))) × (r .0 ≤ 99999) ⌝ }
-    {
-        let five = ShareField::read(field);
-        if five.digits {
-            Share(five.number)
-        } else {
-            Share(0)
+        Share {
+            counts: 0,
+            bad: false,
         }
     }
 
-    // Whether a share that was read isn't five digits, or is over the most.
-    pub fn over(read: ShareField, most: u64) -> bool
-        ensures { λ r. ⌜ r ≡ not (read .digits && leb (read .number) most) ⌝ }
-    {
-        !(read.digits & (read.number <= most))
-    }
-
-    // Whether it counts more than 0.
-    pub fn counts(read: ShareField) -> bool
-        ensures { λ r. ⌜ r ≡ (read .digits && ltb 0 (read .number)) ⌝ }
-    {
-        read.digits & (0 < read.number)
-    }
-
-    // The first of these two, of a field.
-    pub fn bad(field: &[u8], most: u64) -> bool
+    pub fn read(field: &[u8], most: u64) -> Share
         requires { ⌜ length (now field) ≡ 5 ⌝ }
-        ensures { λ r. ⌜ r ≡ badShare most (now (field .entry)) ⌝ }
+        ensures { λ r. ⌜ (r .counts ≡ shareOf (now (field .entry))) × (r .counts ≤ 99999) ⌝ }
+        ensures { λ r. ⌜ r .bad ≡ badShare most (now (field .entry)) ⌝ }
     {
-        Share::over(ShareField::read(field), most)
+        let digits = are_digits(field[0], field[1])
+            & (are_digits(field[2], field[3]) & text::is_digit(field[4]));
+        if digits {
+            let number = 1000 * number(field[0], field[1])
+                + 10 * number(field[2], field[3])
+                + text::digit(field[4]);
+            Share {
+                counts: number,
+                bad: !(number <= most),
+            }
+        } else {
+            Share {
+                counts: 0,
+                bad: true,
+            }
+        }
     }
 
     pub fn is_tolerance(t: u64) -> bool

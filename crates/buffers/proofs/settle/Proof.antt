@@ -13,7 +13,7 @@ returns c s e =
     let start = c .before .before .before .before .before .before in
     let g = start .args in
     entry (g .index) (g .verdict) (g .set) s (g .verdicts .now) (g .findings .now) _ (8 * (g .index + 1)) refl (omega arith)
-    (omega arith) (c .before .before .put .ensures) e
+    (omega arith) (c .before .before .store-eight .ensures) e
 
 pub settle-spec : {M : Type 1} → statement M
 settle-spec =

@@ -1,38 +1,34 @@
--- `chains::join` meets its contract: what it writes is `joinedBy`. Assumes nothing.
+-- `chains::join` meets its contract. Assumes nothing.
 use native.Mathlib.Omega.{arith}
+use mathlib.Core.Path.{sym, ap, subst}
+use Rattle.edits.specs.Readings.{Below100}
+use Rattle.edits.proofs.Sequences.{isNumber}
+use Rattle.chains.proofs.Laws.{chained, unchained, summed, no-number}
 use borrow.Author.Needs.{needs}
-use Rattle.chains.specs.Tallies.{chainsOf}
-use Rattle.chains.proofs.Laws.{with-more}
 use Rattle.chains.proofs.join.Statement.{statement}
 use Rattle.chains.proofs.join.Tie as tie
 
-add-es : tie.Need-add-es
-add-es c =
-    let start = c .before .before .before .before .before .before .before .before in
-    omega (arith, start .pre .2 .es≤ (start .args .k) (start .pre .0))
-
-add-sums : tie.Need-add-sums
-add-sums c =
-    let start = c .before .before .before .before .before .before .before .before .before in
-    omega (arith, start .pre .2 .sums≤ (start .args .k) (start .pre .0))
+join-chain-requires : tie.Need-join-chain-requires
+join-chain-requires c κs =
+    let sequence = c .before .before .before .before .before .before .before .before in
+    let start = sequence .before .before .before in
+    (subst Below100 (sequence .sequence .given .1) (start .pre .0 .1), omega arith, start .pre .1)
 
 returns : tie.Need-returns
-returns c ds r t inside p q s n =
-    let at4 = c .before .before .before in
-    let at3 = at4 .before in
-    let at2 = at3 .before in
-    let at1 = at2 .before in
-    let a = at1 .before .before .before .before .before .before in
-    rw (at4 .counted .ensures .0, at3 .one .ensures .0, at2 .pick2 .ensures, at1 .pick .ensures)
-    (with-more (chainsOf (a .args .begun .now) (a .args .es .now) (a .args .own .now) (a .args .paid .now) (a .args .sums .now) (a .args .met))
-    (a .args .k) ds r (a .args .spu) (a .args .e) (a .args .aq) (a .args .shares)
-    (a .pre .0) t inside p q s n)
+returns c ds r t reads =
+    let p = c .before .before .before .before .before .before .before .before .before .before .before .before .args .p in
+    let number = c .before .before .before .before .before .before .before .before .before .sequence .given in
+    c .join-chain .ensures ds r t (chained p r reads (number .0 .0) (number .1)) (sym (reads .spu)) (sym (reads .e)) (sym (reads .aq)) (summed p r reads)
+
+returns-2 : tie.Need-returns-2
+returns-2 c ds r t reads = no-number _ ds r t (unchained (c .before .before .before .args .p) r reads (ap isNumber (c .enum-told .given .1)))
+
+returns-3 : tie.Need-returns-3
+returns-3 c ds r t reads = no-number _ ds r t (unchained (c .before .before .before .args .p) r reads (ap isNumber (c .enum-told2 .given .1)))
 
 pub join-spec : {M : Type 1} → statement M
 join-spec =
     tie.close
     (tie.spec
-    (λ c. search needs) (λ c. search needs) (λ c. search needs) (λ c. search needs) (λ c. search needs) (λ c. search needs)
-    (λ c. search needs) (λ c κs. search needs) (λ c κs. search needs) (λ c. search needs) (λ c κs. search needs) add-es
-    (λ c. search needs) (λ c. search needs) (λ c. search needs) (λ c. search needs) (λ c κs. search needs) add-sums
-    (λ c. search needs) (λ c. search needs) returns)
+    (λ c. search needs) (λ c. search needs) (λ c. search needs) (λ c. search needs) join-chain-requires (λ c. search needs)
+    (λ c. search needs) returns returns-2 returns-3)

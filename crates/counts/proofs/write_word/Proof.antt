@@ -3,9 +3,8 @@
 use mathlib.Core.Path.{ap, _∙_}
 use Prim.Native.Nat.{_+_, _-_}
 use borrow.Rule.Slice.PartMut.{putMid}
-use Rattle.format.specs.Bytes.{Bytes}
-use Rattle.text.specs.Words.{bytesOf}
-use Rattle.text.proofs.Words.{length-bytes}
+use Rattle.format.specs.Bytes.{Bytes, bytesOf}
+use Rattle.format.proofs.Decimal.{length-bytes}
 use Rattle.counts.proofs.Laws.{over-part}
 use borrow.Author.Needs.{needs}
 use Rattle.counts.proofs.write_word.Statement.{statement}

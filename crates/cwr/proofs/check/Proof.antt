@@ -2,7 +2,6 @@
 use mathlib.Core.Path.{sym, _∙_}
 use borrow.Author.Needs.{needs}
 use borrow.Author.Tests.{not-true, not-false}
-use Rattle.buffers.proofs.Entries.{kept-v, kept-f}
 use Rattle.cwr.proofs.Outcomes.{refused-so, judged-so, in-order, fit}
 use Rattle.cwr.proofs.check.Statement.{statement}
 use Rattle.cwr.proofs.check.Tie as tie
@@ -20,12 +19,6 @@ judge-requires c κs =
     let h = fit _ _ _ verdicts findings _ (answered .answer .ensures) passes in
     ((h .short, h .here, h .room), (o .tolerance, o .languages, o .societies, o .categories))
 
-same-length : tie.Need-same-length
-same-length c = kept-v (c .before .before .before .before .judge .ensures)
-
-same-length-2 : tie.Need-same-length-2
-same-length-2 c = kept-f (c .before .before .before .before .judge .ensures)
-
 returns-2 : tie.Need-returns-2
 returns-2 c =
     let judged = c .before .before .before .before in
@@ -37,4 +30,4 @@ pub check-spec : {M : Type 1} → statement M
 check-spec =
     tie.close
     (tie.spec
-    (λ c κs. search needs) (λ c κs. search needs) returns judge-requires same-length same-length-2 returns-2)
+    (λ c κs. search needs) (λ c κs. search needs) returns judge-requires (λ c. search needs) (λ c. search needs) returns-2)

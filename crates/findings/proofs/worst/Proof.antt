@@ -20,14 +20,14 @@ loop-holds c = brings-none (c .before .args .first) (c .before .args .holds .now
 sub-i : tie.Need-sub-i Inv-loop μ-loop
 sub-i c = omega arith
 
-shared-slice-read-brought : tie.Need-shared-slice-read-brought Inv-loop μ-loop
-shared-slice-read-brought c = omega arith
+shared-slice-read-byte : tie.Need-shared-slice-read-byte Inv-loop μ-loop
+shared-slice-read-byte c = omega arith
 
-add-brought : tie.Need-add-brought Inv-loop μ-loop
-add-brought c = omega arith
+add-byte : tie.Need-add-byte Inv-loop μ-loop
+add-byte c = omega arith
 
-array-read-brought : tie.Need-array-read-brought Inv-loop μ-loop
-array-read-brought c = omega arith
+array-read-byte : tie.Need-array-read-byte Inv-loop μ-loop
+array-read-byte c = omega arith
 
 loop-less : tie.Need-loop-less Inv-loop μ-loop
 loop-less c = omega arith
@@ -37,7 +37,7 @@ unfolding level
 loop-again c =
     let l = c .before .before .before .before .loop in
     let g = c .before .before .before .before .before .before .args in
-    rw (c .larger .ensures, c .before .brought .ensures)
+    rw (c .larger .ensures, c .before .byte .ensures)
     (brings-one (g .first) (g .holds .now) (l .most) (l .i) _ (c .before .before .before .loop-test .taken)
     (verdict-at _ refl (g .first + (l .i - 1)) (omega arith))
     (l .inv))
@@ -57,9 +57,9 @@ worst-spec =
     μ-loop
     loop-holds
     sub-i
-    shared-slice-read-brought
-    add-brought
-    array-read-brought
+    shared-slice-read-byte
+    add-byte
+    array-read-byte
     (λ c κs. search needs)
     (λ c κs. search needs)
     loop-less

@@ -13,10 +13,10 @@ returns c fifteen rest long w-set w-level o-set o-level =
     gathered (g .stray) fifteen rest long (g .works) (g .own) w-set w-level o-set o-level
     (first .bit .result)
     (compared .larger .result)
-    (picked .pick .result)
+    (picked .byte .result)
     (first .bit .ensures .0)
     (compared .larger .ensures)
-    (picked .pick .ensures)
+    (picked .byte .ensures)
 
 pub join-spec : {M : Type 1} → statement M
 join-spec =

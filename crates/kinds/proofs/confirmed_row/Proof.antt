@@ -8,7 +8,9 @@ use Rattle.kinds.proofs.confirmed_row.Statement.{statement}
 use Rattle.kinds.proofs.confirmed_row.Tie as tie
 
 returns : tie.Need-returns
-returns c = c .before .before .before .before .before .before .pre .1 _ (sym (c .before .is-type .ensures) ∙ c .if1 .taken) ∙ ap rowFor (first-three (c .before .before .before .before .before .before .args .record .now) (c .before .before .before .before .before .before .pre .0))
+returns c =
+    let start = c .before .before .before .before .before .before in
+    start .pre .1 _ (sym (c .before .is-type .ensures) ∙ c .if1 .taken) ∙ ap rowFor (first-three (start .args .record .now) (start .pre .0))
 
 returns-2 : tie.Need-returns-2
 returns-2 c = c .row-of .ensures

@@ -11,7 +11,9 @@ returns : tie.Need-returns
 returns c = c .no-row .ensures ∙ short-row (c .before .before .before .args .record .now) (c .before .if1 .taken)
 
 returns-2 : tie.Need-returns-2
-returns-2 c = c .row-of-type .ensures ∙ ap rowFor (first-three (c .before .before .before .before .before .before .args .record .now) (c .before .before .before .before .if1 .left))
+returns-2 c =
+    let long = c .before .before .before .before in
+    c .row-of-type .ensures ∙ ap rowFor (first-three (long .before .before .args .record .now) (long .if1 .left))
 
 pub row-of-spec : {M : Type 1} → statement M
 row-of-spec =

@@ -15,7 +15,7 @@ returns c =
     let g = start .args in
     let word = at1 .load-eight .ensures .0 in (
       line-put (g .file .now) (g .at) (g .number) (g .verdicts .now) (g .findings .now) (8 * (g .number + 1)) (at1 .load-eight .result)
-          (at2 .wide .result) refl word (at2 .wide .ensures) (at3 .put-record .ensures .0),
+          (at2 .wide .result) refl word (at2 .wide .ensures .0) (at3 .put-record .ensures .0),
       at3 .put-record .ensures .1,
     )
 

@@ -1,21 +1,21 @@
 -- `structure::ended` meets its contract: one law for each ground.
 use borrow.Author.Needs.{needs}
-use Rattle.counts.specs.Tally.{tally}
-use Rattle.structure.proofs.Faults.{end-met, end-place, end-number, end-total, end-version, end-passed}
+use Rattle.counts.specs.Counting.{countsIn}
+use Rattle.structure.proofs.Faults.{end-fault, end-place, end-number, end-total, end-version, end-passed}
 use Rattle.structure.proofs.ended.Statement.{statement}
 use Rattle.structure.proofs.ended.Tie as tie
 
 returns : tie.Need-returns
 returns c =
     let g = c .before .before .before .before .before .args in
-    λ asked. end-met asked (g .version) (g .m) (g .s .place) (tally (g .s .counts)) _ (c .before .before .if1 .taken) (c .index .ensures)
+    λ asked. end-fault asked (g .version) (g .m) (g .s .class) (countsIn (g .s .counts)) _ (c .before .before .if1 .taken) (c .index .ensures)
 
 returns-2 : tie.Need-returns-2
 returns-2 c =
     let at1 = c .before .before .before in
     let start = at1 .before .before .before in
     let g = start .args in
-    λ asked. end-place asked (g .version) (g .m) (g .s .place) (tally (g .s .counts)) (at1 .if1 .left) (start .pre) _
+    λ asked. end-place asked (g .version) (g .m) (g .s .class) (countsIn (g .s .counts)) (at1 .if1 .left) (start .pre) _
     (c .before .if2 .taken) (c .index2 .ensures)
 
 returns-3 : tie.Need-returns-3
@@ -24,7 +24,7 @@ returns-3 c =
     let at1 = at2 .before .before in
     let start = at1 .before .before .before in
     let g = start .args in
-    λ asked. end-number asked (g .version) (g .m) (g .s .place) (tally (g .s .counts)) (at1 .if1 .left) (start .pre) (at2 .if2 .left) _
+    λ asked. end-number asked (g .version) (g .m) (g .s .class) (countsIn (g .s .counts)) (at1 .if1 .left) (start .pre) (at2 .if2 .left) _
     (c .before .before .if3 .taken) (c .index3 .ensures)
 
 returns-4 : tie.Need-returns-4
@@ -34,7 +34,7 @@ returns-4 c =
     let at1 = at2 .before .before in
     let start = at1 .before .before .before in
     let g = start .args in
-    λ asked. end-total asked (g .version) (g .m) (g .s .place) (tally (g .s .counts)) (at1 .if1 .left) (start .pre) (at2 .if2 .left)
+    λ asked. end-total asked (g .version) (g .m) (g .s .class) (countsIn (g .s .counts)) (at1 .if1 .left) (start .pre) (at2 .if2 .left)
     (at3 .if3 .left) _ (c .before .before .if4 .taken) (c .index4 .ensures)
 
 returns-5 : tie.Need-returns-5
@@ -44,7 +44,7 @@ returns-5 c =
     let at1 = at2 .before .before in
     let start = at1 .before .before .before in
     let g = start .args in
-    λ asked. end-passed asked (g .version) (g .m) (g .s .place) (tally (g .s .counts)) (at1 .if1 .left) (start .pre) (at2 .if2 .left)
+    λ asked. end-passed asked (g .version) (g .m) (g .s .class) (countsIn (g .s .counts)) (at1 .if1 .left) (start .pre) (at2 .if2 .left)
     (at3 .if3 .left) (c .before .if4 .left) (c .if5 .taken)
 
 returns-6 : tie.Need-returns-6
@@ -54,7 +54,7 @@ returns-6 c =
     let at1 = at2 .before .before in
     let start = at1 .before .before .before in
     let g = start .args in
-    λ asked. end-version asked (g .version) (g .m) (g .s .place) (tally (g .s .counts)) (at1 .if1 .left) (start .pre) (at2 .if2 .left)
+    λ asked. end-version asked (g .version) (g .m) (g .s .class) (countsIn (g .s .counts)) (at1 .if1 .left) (start .pre) (at2 .if2 .left)
     (at3 .if3 .left) (c .before .if4 .left) (c .if5 .left)
 
 pub ended-spec : {M : Type 1} → statement M

@@ -9,7 +9,7 @@ use Rattle.format.specs.Lines.{lines}
 use Rattle.format.specs.Checks.{classAt}
 use Rattle.format.specs.Structure.{refused}
 use Rattle.format.specs.Numbering.{recordsIn}
-use Rattle.counts.specs.Tally.{tally}
+use Rattle.counts.specs.Counting.{countsIn}
 use Rattle.structure.specs.Rest.{faultless, judgedFrom}
 use Rattle.structure.proofs.Search.{Judging, judging-end, judging-type, judging-on, is-typed}
 use borrow.Author.Needs.{needs}
@@ -19,7 +19,7 @@ use Rattle.structure.proofs.judge.Tie as tie
 abbrev Inv-loop : tie.InvT-loop
 Inv-loop file asked version s₀ m₀ s m =
     Judging file asked version s m
-    (judgedFrom cwr22 asked version faultless (classAt (s₀ .place)) (tally (s₀ .counts)) (recordsIn (lines (drop (s₀ .at) file))))
+    (judgedFrom cwr22 asked version faultless (classAt (s₀ .class)) (countsIn (s₀ .counts)) (recordsIn (lines (drop (s₀ .at) file))))
 
 abbrev μ-loop : tie.MeasureT-loop
 μ-loop file asked version s₀ m₀ s m = length file - s .at
@@ -56,7 +56,7 @@ more-requires c κs =
     let g = start .args in
     let l = at1 .loop in
     let b = l .inv .bounded in (
-      (b .place, b .kept, omega (arith, b .few, b .inside)),
+      (b .class, b .kept, omega (arith, b .few, b .inside)),
       (
         at4 .row-of .ensures,
         is-typed (g .file .now) (g .asked) (g .version) (l .s) (l .m) _ (l .inv) (at2 .if1 .taken)
@@ -88,7 +88,7 @@ loop-again c =
     (not-false _ (c .before .before .if2 .left)) _ (c .after-record .ensures) _ (c .before .more .ensures)
 
 ended-requires : tie.Need-ended-requires Inv-loop μ-loop
-ended-requires c κs = c .before .before .loop .inv .bounded .place
+ended-requires c κs = c .before .before .loop .inv .bounded .class
 
 returns-2 : tie.Need-returns-2 Inv-loop μ-loop
 returns-2 c =

@@ -1,8 +1,8 @@
--- `structure::more` meets its contract: the row's place is the record's class, and the tests are those of 7, 8 and 9.
+-- `structure::more` meets its contract: the row's class is the record's, and the tests are those of 7, 8 and 9.
 use borrow.Author.Needs.{needs}
 use native.Mathlib.Omega.{arith}
 use Rattle.format.specs.Checks.{classAt}
-use Rattle.counts.specs.Tally.{tally}
+use Rattle.counts.specs.Counting.{countsIn}
 use Rattle.structure.specs.Walk.{faultsOf}
 use Rattle.structure.proofs.Rows.{row-six, row-room}
 use Rattle.structure.proofs.Turns.{faults-more}
@@ -25,7 +25,7 @@ returns c =
     let at1 = at2 .before .before .before in
     let start = at1 .before .before .before in
     let g = start .args in
-    faults-more (g .«record» .now) (g .row) (start .pre .1 .0) (g .asked) (faultsOf (g .m)) (classAt (g .s .place)) (tally (g .s .counts)) _
+    faults-more (g .«record» .now) (g .row) (start .pre .1 .0) (g .asked) (faultsOf (g .m)) (classAt (g .s .class)) (countsIn (g .s .counts)) _
     (at2 .follows .result) (at1 .numbered .result) (at2 .follows .ensures) (at1 .numbered .ensures)
     (c .before .before .first .ensures) (c .before .first2 .ensures) (c .first3 .ensures)
 

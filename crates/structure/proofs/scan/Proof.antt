@@ -4,7 +4,7 @@ use mathlib.Core.Path.{sym, _∙_}
 use lib.ListN.{drop}
 use Rattle.format.specs.Lines.{lines}
 use Rattle.format.specs.Checks.{classAt}
-use Rattle.counts.specs.Tally.{tally}
+use Rattle.counts.specs.Counting.{countsIn}
 use Rattle.structure.proofs.Whole.{lines-fault, lines-good, lines-many, lines-few}
 use borrow.Author.Needs.{needs}
 use Rattle.structure.proofs.scan.Statement.{statement}
@@ -23,7 +23,7 @@ judge-requires c κs =
     let g = start .args in (
       start .pre .0,
       start .pre .1,
-      lines-good (g .asked) (g .version) (classAt (g .s .place)) (tally (g .s .counts))
+      lines-good (g .asked) (g .version) (classAt (g .s .class)) (countsIn (g .s .counts))
           (at1 .index .result) (at1 .index .ensures) (lines (drop (g .s .at) (g .file .now))) _
           (sym (at2 .lines-from .ensures) ∙ c .before .before .n2 .given .1),
     )
@@ -34,7 +34,7 @@ returns c =
     let at1 = at2 .before in
     let start = at1 .before .before .before in
     let g = start .args in
-    lines-fault (g .asked) (g .version) (classAt (g .s .place)) (tally (g .s .counts)) (at1 .index .result) (at1 .index .ensures)
+    lines-fault (g .asked) (g .version) (classAt (g .s .class)) (countsIn (g .s .counts)) (at1 .index .result) (at1 .index .ensures)
     (lines (drop (g .s .at) (g .file .now))) _ (sym (at2 .lines-from .ensures) ∙ c .before .n .given .1)
 
 returns-2 : tie.Need-returns-2
@@ -43,7 +43,7 @@ returns-2 c =
     let at1 = at2 .before in
     let start = at1 .before .before .before in
     let g = start .args in
-    lines-many (g .asked) (g .version) (classAt (g .s .place)) (tally (g .s .counts)) (at1 .index .result) (at1 .index .ensures)
+    lines-many (g .asked) (g .version) (classAt (g .s .class)) (countsIn (g .s .counts)) (at1 .index .result) (at1 .index .ensures)
     (lines (drop (g .s .at) (g .file .now))) _ (sym (at2 .lines-from .ensures) ∙ c .before .before .n2 .given .1) (c .if1 .taken)
 
 returns-3 : tie.Need-returns-3
@@ -53,7 +53,7 @@ returns-3 c =
     let at1 = at2 .before in
     let start = at1 .before .before .before in
     let g = start .args in
-    c .judge .ensures ∙ lines-few (g .asked) (g .version) (classAt (g .s .place)) (tally (g .s .counts)) (at1 .index .result)
+    c .judge .ensures ∙ lines-few (g .asked) (g .version) (classAt (g .s .class)) (countsIn (g .s .counts)) (at1 .index .result)
     (at1 .index .ensures) (lines (drop (g .s .at) (g .file .now))) _ (sym (at2 .lines-from .ensures) ∙ at3 .n2 .given .1)
     (c .before .if1 .left)
 

@@ -2,8 +2,7 @@
 use native.Mathlib.Omega.{arith}
 use mathlib.Core.Path.{ap, _∙_}
 use borrow.Author.Needs.{needs}
-use Rattle.format.specs.Bytes.{Bytes, sameBytes}
-use Rattle.text.specs.Words.{bytesOf}
+use Rattle.format.specs.Bytes.{Bytes, sameBytes, bytesOf}
 use Rattle.text.proofs.Words.{same-words}
 use Rattle.text.proofs.is_word.Statement.{statement}
 use Rattle.text.proofs.is_word.Tie as tie

@@ -6,7 +6,10 @@ use Rattle.values.proofs.duration.Statement.{statement}
 use Rattle.values.proofs.duration.Tie as tie
 
 returns : tie.Need-returns
-returns c = let s = c .before .before .before .before .before .before .before .before .before .before .before .before .before .before .before .before in cc (duration-is (s .args .field .now) (s .pre))
+returns c =
+    let middle = c .before .before .before .before .before .before .before .before in
+    let start = middle .before .before .before .before .before .before .before .before in
+    cc (duration-is (start .args .field .now) (start .pre))
 
 pub duration-spec : {M : Type 1} → statement M
 duration-spec =

@@ -6,7 +6,10 @@ use Rattle.values.proofs.iswc_sum.Statement.{statement}
 use Rattle.values.proofs.iswc_sum.Tie as tie
 
 returns : tie.Need-returns
-returns c = let s = c .before .before .before .before .before .before .before .before .before .before .before .before .before .before .before .before .before .before .before .before .before in cc (sum-is (s .args .field .now) (s .pre))
+returns c =
+    let middle = c .before .before .before .before .before .before .before .before .before .before in
+    let start = middle .before .before .before .before .before .before .before .before .before .before .before in
+    cc (sum-is (start .args .field .now) (start .pre))
 
 pub iswc-sum-spec : {M : Type 1} → statement M
 iswc-sum-spec =

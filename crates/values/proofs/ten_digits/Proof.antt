@@ -6,7 +6,10 @@ use Rattle.values.proofs.ten_digits.Statement.{statement}
 use Rattle.values.proofs.ten_digits.Tie as tie
 
 returns : tie.Need-returns
-returns c = let s = c .before .before .before .before .before .before .before .before .before .before .before .before .before .before .before .before in cc (ten-are (s .args .field .now) (s .pre))
+returns c =
+    let middle = c .before .before .before .before .before .before .before .before in
+    let start = middle .before .before .before .before .before .before .before .before in
+    cc (ten-are (start .args .field .now) (start .pre))
 
 pub ten-digits-spec : {M : Type 1} → statement M
 ten-digits-spec =

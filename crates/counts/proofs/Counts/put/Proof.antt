@@ -9,13 +9,13 @@ use Rattle.counts.proofs.Counts.put.Statement.{statement}
 use Rattle.counts.proofs.Counts.put.Tie as tie
 
 write-into-requires : tie.Need-write-into-requires
-write-into-requires c κs = let r = c .before .numbers-for .ensures in omega (arith, r .place, r .wide)
+write-into-requires c κs = let r = c .before .numbers-for .ensures in omega (arith, r .start, r .wide)
 
 returns : tie.Need-returns
 unfolding over
 returns c =
     let r = c .before .before .before .before .numbers-for .ensures in
-    c .before .before .write-into .ensures ∙ rw (r .place, r .right, expected-length)
+    c .before .before .write-into .ensures ∙ rw (r .start, r .right, expected-length)
 
 pub put-spec : {M : Type 1} → statement M
 put-spec = tie.close (tie.spec (λ c κs. search needs) write-into-requires (λ c. search needs) returns)

@@ -1,6 +1,6 @@
--- `counts::Counts::with` meets its contract: each arm knows its place, and changes what the format changes there.
+-- `counts::Counts::with` meets its contract: each arm knows its class, and changes what the format changes there.
 -- Assumes nothing.
-use Rattle.counts.proofs.Places.{counted, counted-else}
+use Rattle.counts.proofs.Classes.{counted, counted-else}
 use Rattle.counts.proofs.Words.{zero-word, one-word, two-word, grown-at, grown-else, one-before}
 use native.Mathlib.Omega.{arith}
 use borrow.Author.Needs.{needs}
@@ -18,7 +18,7 @@ returns c =
     let at = c .before .before in
     let g = at .before .before .before .before .before in
     let n = g .args .self in
-    let next = grown-at _ (g .args .place) 1 (n .«in_group») (n .«in_transaction») (at .match .keys1)
+    let next = grown-at _ (g .args .class) 1 (n .«in_group») (n .«in_transaction») (at .match .keys1)
     (at .before .before .before .before .grown .ensures) in
     (counted _ _ _ 1 (at .match .keys1) (omega arith), ((omega arith, (zero-word, zero-word, next, two-word)), omega arith))
 
@@ -27,7 +27,7 @@ returns-2 c =
     let at = c .before .before .before in
     let g = at .before .before .before .before .before in
     let n = g .args .self in
-    let next = grown-at _ (g .args .place) 2 (n .«in_group») (n .«in_transaction») (at .match .keys2)
+    let next = grown-at _ (g .args .class) 2 (n .«in_group») (n .«in_transaction») (at .match .keys2)
     (at .before .before .before .before .grown .ensures) in (
       counted _ _ _ 2 (at .match .keys2) (omega arith),
       ((omega arith, (next, one-before _ (n .«in_group») (g .pre .0 .1 .0), one-word, at .before .before .next-eight .ensures)), omega arith),
@@ -39,8 +39,8 @@ returns-3 c =
     let ne = at .match .rest in
     let g = at .before .before .before .before .before in
     let n = g .args .self in
-    let next = grown-else _ (g .args .place) (n .«in_group») (n .«in_transaction») (ne .1) (at .before .before .before .before .grown .ensures) in (
-      counted-else _ _ (g .args .place) (ne .0 .1) (ne .1) (omega arith),
+    let next = grown-else _ (g .args .class) (n .«in_group») (n .«in_transaction») (ne .1) (at .before .before .before .before .grown .ensures) in (
+      counted-else _ _ (g .args .class) (ne .0 .1) (ne .1) (omega arith),
       ((omega arith, (g .pre .0 .1 .0, g .pre .0 .1 .1, next, at .before .before .next-eight .ensures)), omega arith),
     )
 

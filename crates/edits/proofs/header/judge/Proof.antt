@@ -7,7 +7,7 @@ use Rattle.edits.proofs.header.judge.Statement.{statement}
 use Rattle.edits.proofs.header.judge.Tie as tie
 
 returns : tie.Need-returns
-returns c tables el ec before =
+returns c tables before i =
     let at23 = c .before .before in
     let at22 = at23 .before in
     let at21 = at22 .before in
@@ -16,8 +16,8 @@ returns c tables el ec before =
     let at18 = at19 .before in
     let at17 = at18 .before in
     let at16 = at17 .before in
-    let s = at16 .before .before .before .before .before .before in
-    own-header tables before (s .args .record .now) (s .pre .0 .1)
+    let s = at16 .before .before in
+    own-header tables before (s .args .record .now) (s .pre .1)
     (
     at16 .found-16 .result
     ∷ at17 .found-17 .result
@@ -32,11 +32,11 @@ returns c tables el ec before =
     _
     (rw (
       ← at16 .found-16 .ensures,
-      ← at17 .found-17 .ensures tables el,
+      ← at17 .found-17 .ensures tables i,
       ← at18 .found-18 .ensures,
       ← at19 .found-19 .ensures,
       ← at20 .found-20 .ensures,
-      ← at21 .found-21 .ensures tables ec,
+      ← at21 .found-21 .ensures tables i,
       ← at22 .found-22 .ensures,
       ← at23 .found-23 .ensures,
     ))

@@ -1,13 +1,11 @@
--- `edits::publisher::judge` meets its contract: each finding by its function, and the others do not hold of this kind of record.
--- Assumes nothing.
-use mathlib.Core.List.{[], _∷_}
+-- `edits::publisher::judge` meets its contract. Assumes nothing.
 use Rattle.edits.proofs.Own.{own-publisher}
 use borrow.Author.Needs.{needs}
 use Rattle.edits.proofs.publisher.judge.Statement.{statement}
 use Rattle.edits.proofs.publisher.judge.Tie as tie
 
 returns : tie.Need-returns
-returns c tables es before el ek =
+returns c tables before i reads last known =
     let at37 = c .before .before in
     let at36 = at37 .before in
     let at35 = at36 .before in
@@ -20,39 +18,22 @@ returns c tables es before el ek =
     let at27 = at28 .before in
     let at26 = at27 .before in
     let at25 = at26 .before in
-    let shares = at25 .before in
-    let s = shares .before .before .before .before .before .before in
-    own-publisher tables before (s .args .record .now) (s .pre .0 .1)
-    (
-    at25 .found-25 .result
-    ∷ at26 .found-26 .result
-    ∷ at27 .found-27 .result
-    ∷ at28 .found-28 .result
-    ∷ at29 .found-29 .result
-    ∷ shares .read-shares .result .bad
-    ∷ at31 .found-31 .result
-    ∷ at32 .found-32 .result
-    ∷ at33 .found-33 .result
-    ∷ at34 .found-34 .result
-    ∷ at35 .found-35 .result
-    ∷ at36 .found-36 .result
-    ∷ at37 .found-37 .result
-    ∷ []
-    )
-    _
+    let s = at25 .before .before in
+    let r = s .args .record .now in
+    own-publisher tables before r (s .pre .1) _ _
     (rw (
-      ← at25 .found-25 .ensures before el,
-      ← at26 .found-26 .ensures,
-      ← at27 .found-27 .ensures,
-      ← at28 .found-28 .ensures,
-      ← at29 .found-29 .ensures,
-      ← shares .read-shares .ensures .0,
-      ← at31 .found-31 .ensures,
-      ← at32 .found-32 .ensures before ek,
-      ← at33 .found-33 .ensures,
-      ← at34 .found-34 .ensures,
-      ← at35 .found-35 .ensures,
-      ← at36 .found-36 .ensures tables es,
+      ← at25 .found-25 .ensures before last r reads,
+      ← at26 .found-26 .ensures reads,
+      ← at27 .found-27 .ensures reads,
+      ← at28 .found-28 .ensures r reads,
+      ← at29 .found-29 .ensures r reads,
+      ← reads .bad,
+      ← at31 .found-31 .ensures r reads,
+      ← at32 .found-32 .ensures before r known reads,
+      ← at33 .found-33 .ensures r reads,
+      ← at34 .found-34 .ensures reads,
+      ← at35 .found-35 .ensures r reads,
+      ← at36 .found-36 .ensures tables i,
       ← at37 .found-37 .ensures,
     ))
     (c .gather .ensures .0)
@@ -64,5 +45,4 @@ judge-spec =
     (tie.spec
     (λ c κs. search needs) (λ c κs. search needs) (λ c κs. search needs) (λ c κs. search needs) (λ c κs. search needs)
     (λ c κs. search needs) (λ c κs. search needs) (λ c κs. search needs) (λ c κs. search needs) (λ c κs. search needs)
-    (λ c κs. search needs) (λ c κs. search needs) (λ c κs. search needs) (λ c κs. search needs) (λ c κs. search needs)
-    (λ c. search needs) (λ c κs. search needs) returns)
+    (λ c κs. search needs) (λ c κs. search needs) (λ c. search needs) (λ c κs. search needs) returns)

@@ -1,7 +1,7 @@
 -- `tally::Tally::start` meets its contract. Assumes nothing.
 use mathlib.Core.Path.{refl}
 use borrow.Author.Needs.{needs}
-use Rattle.edits.specs.Before.{lastSequence}
+use Rattle.edits.specs.Sequences.{lastSequence}
 use Rattle.tally.proofs.Tally.start.Statement.{statement}
 use Rattle.tally.proofs.Tally.start.Tie as tie
 
