@@ -8,8 +8,8 @@
  * - Calls may run in several threads at once, as long as none writes what is
  *   lent to another: between calls nothing is kept, and the library has no
  *   data of its own that is written.
- * - A check takes up to 30 KB of stack, and numbering up to 3 KB (measured, by
- *   `bench/run stack`); 64 KB are enough for any call. No memory is allocated.
+ * - A check takes up to 67 KB of stack, and numbering up to 3 KB (measured, by
+ *   `bench/run stack`); 128 KB are enough for any call. No memory is allocated.
  * - A record is the text before a CR LF pair; records count from 0.
  *
  * What is answered by the first three calls
@@ -111,6 +111,12 @@ uint32_t cwr_findings_count(uint64_t set);
 
 /* The number of a set's lowest finding; CWR_NONE where it has none. */
 uint32_t cwr_findings_lowest(uint64_t set);
+
+/* The length that a record of this one's type has, by its first three bytes; 0
+ * where these are no type that is known (refusal 6; AGR, ISW, EXC and ACK are
+ * not), or there are fewer. It judges nothing: any bytes may be lent, and any
+ * number of them. */
+uint32_t cwr_record_length(const uint8_t *record, size_t length);
 
 /* An answer taken apart: the number of the refusal, 0 where passed; */
 static inline uint32_t cwr_refusal(uint64_t answer) {

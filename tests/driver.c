@@ -61,8 +61,8 @@ static u64 number(const u8 *bytes, int length) {
     return value;
 }
 
-static void store(u8 *bytes, u64 value) {
-    for (int at = 0; at < 8; at++)
+static void store(u8 *bytes, u64 value, int length) {
+    for (int at = 0; at < length; at++)
         bytes[at] = (u8)(value >> (8 * at));
 }
 
@@ -105,6 +105,9 @@ static void release(struct part *part) {
 /* The parts in the order in which they come. */
 enum { THE_FILE, LANGUAGES, SOCIETIES, CATEGORIES, FIRST, SECOND, PARTS };
 
+/* In the languages' place, where records are lent one by one. */
+enum { LENGTHS = LANGUAGES };
+
 /* A sum over the lent parts, to see that they stay as they are; of eight bytes
  * at a time, for the large files' sake. */
 static u64 sum(const struct part *parts) {
@@ -131,10 +134,11 @@ u64 probe_groups(const u8 *file, size len);
 u64 probe_transactions(const u8 *file, size len);
 u64 probe_number(const u8 *file, size len, u8 *out, size out_len);
 
-static void call(u8 letter, u64 value, struct part *parts, u64 *answer) {
+static void call(u8 letter, u64 value, u64 guard, struct part *parts, u64 *answer) {
     const u8 *file = parts[THE_FILE].bytes;
     size length = parts[THE_FILE].length;
     (void)value;
+    (void)guard;
     if (letter == 's') {
         answer[0] = probe_structure(file, length);
         answer[1] = probe_groups(file, length);
@@ -162,10 +166,37 @@ u64 cwr_check_within(u64 tolerance, const u8 *file, size file_len, const u8 *lan
 u64 cwr_number(const u8 *file, size len, u8 *out, size out_len);
 u32 cwr_findings_count(u64 set);
 u32 cwr_findings_lowest(u64 set);
+u32 cwr_record_length(const u8 *record, size length);
+
+/* Lends the file's records one by one; the lengths of their types go to the
+ * first buffer. The records lie in one room in turn, each with its begin or its
+ * end at the edge. What it then holds is taken back, for the sum's sake. */
+static u64 each_record(struct part *parts, u64 guard) {
+    const u8 *lengths = parts[LENGTHS].bytes;
+    u64 records = parts[LENGTHS].length / 4;
+    struct part room = {0, 0, 0, 0};
+    for (u64 at = 0; at < records; at++) {
+        size length = number(lengths + 4 * at, 4);
+        if (length > room.length)
+            room.length = length;
+    }
+    place(&room, guard);
+    u8 *record = parts[THE_FILE].bytes;
+    for (u64 at = 0; at < records; at++) {
+        size length = number(lengths + 4 * at, 4);
+        u8 *lent = guard == BEFORE_AN_EDGE ? room.bytes + (room.length - length) : room.bytes;
+        __builtin_memcpy(lent, record, length);
+        store(parts[FIRST].bytes + 4 * at, cwr_record_length(lent, length), 4);
+        __builtin_memcpy(record, lent, length);
+        record += length;
+    }
+    release(&room);
+    return records;
+}
 
 #define LENT(which) parts[which].bytes, parts[which].length
 
-static void call(u8 letter, u64 value, struct part *parts, u64 *answer) {
+static void call(u8 letter, u64 value, u64 guard, struct part *parts, u64 *answer) {
     if (letter == 'c') {
         answer[0] = cwr_check(LENT(THE_FILE), LENT(LANGUAGES), LENT(SOCIETIES), LENT(CATEGORIES),
                               LENT(FIRST), LENT(SECOND));
@@ -177,6 +208,8 @@ static void call(u8 letter, u64 value, struct part *parts, u64 *answer) {
     } else if (letter == 'b') {
         answer[0] = cwr_findings_count(value);
         answer[1] = cwr_findings_lowest(value);
+    } else if (letter == 'r') {
+        answer[0] = each_record(parts, guard);
     } else {
         exit(3);
     }
@@ -196,11 +229,11 @@ int main(void) {
 
         u64 before = sum(parts);
         u64 answer[3] = {0, 0, 0};
-        call(head[0], number(head + 2, 8), parts, answer);
+        call(head[0], number(head + 2, 8), head[1], parts, answer);
 
         u8 reply[25];
         for (int which = 0; which < 3; which++)
-            store(reply + 8 * which, answer[which]);
+            store(reply + 8 * which, answer[which], 8);
         reply[24] = sum(parts) != before;
         put(reply, sizeof reply);
         put(parts[FIRST].bytes, parts[FIRST].length);

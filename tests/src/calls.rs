@@ -6,6 +6,11 @@
 //! two buffers, then the parts and the buffers as they are before the call.
 //! What a call doesn't take has length 0. Reply: three u64, a byte that is 1
 //! where a lent part was changed, and the buffers as they are after the call.
+//!
+//! `record` is asked of many records at once, which the driver lends one by one:
+//! they stand in the file's place, one directly after the other, their u32
+//! lengths in that of the languages, and a u32 for each is put into the first
+//! buffer.
 
 use std::io::{self, Read, Write};
 
@@ -21,6 +26,8 @@ pub enum Call {
     Number,
     /// Number and lowest of a set of findings.
     Bits,
+    /// The length that a record's type has.
+    Record,
     /// Refusals 3 to 10 alone, with the numbers of groups and transactions.
     Structure,
     /// Numbering, with the numbers of groups and transactions.
@@ -38,11 +45,12 @@ pub enum Program {
 }
 
 impl Call {
-    pub const ALL: [Call; 7] = [
+    pub const ALL: [Call; 8] = [
         Call::Check,
         Call::Within,
         Call::Number,
         Call::Bits,
+        Call::Record,
         Call::Structure,
         Call::Counted,
         Call::Listing,
@@ -54,6 +62,7 @@ impl Call {
             Call::Within => "within",
             Call::Number => "number",
             Call::Bits => "bits",
+            Call::Record => "record",
             Call::Structure => "structure",
             Call::Counted => "counted",
             Call::Listing => "listing",
@@ -62,7 +71,9 @@ impl Call {
 
     pub fn program(self) -> Program {
         match self {
-            Call::Check | Call::Within | Call::Number | Call::Bits => Program::Driver,
+            Call::Check | Call::Within | Call::Number | Call::Bits | Call::Record => {
+                Program::Driver
+            }
             Call::Structure | Call::Counted => Program::Probe,
             Call::Listing => Program::Listing,
         }
@@ -75,6 +86,7 @@ impl Call {
             Call::Within => b'w',
             Call::Number => b'n',
             Call::Bits => b'b',
+            Call::Record => b'r',
             Call::Structure => b's',
             Call::Counted => b'k',
             Call::Listing => b'l',
@@ -123,6 +135,36 @@ pub struct Request {
 }
 
 impl Request {
+    /// What asks for the lengths of these records' types.
+    pub fn of_records(records: &[&[u8]], guard: Guard) -> Request {
+        let length = |record: &&[u8]| (record.len() as u32).to_le_bytes();
+        Request {
+            call: Call::Record,
+            guard,
+            number: 0,
+            file: records.concat(),
+            tables: [
+                records.iter().flat_map(length).collect(),
+                Vec::new(),
+                Vec::new(),
+            ],
+            // No type has such a length.
+            buffers: [vec![255; 4 * records.len()], Vec::new()],
+        }
+    }
+
+    /// The records that such a request asks about.
+    pub fn records(&self) -> Vec<&[u8]> {
+        let mut left = &self.file[..];
+        let lengths = self.tables[0].chunks_exact(4).map(u32_of);
+        let record = |length: u32| {
+            let record;
+            (record, left) = left.split_at(length as usize);
+            record
+        };
+        lengths.map(record).collect()
+    }
+
     pub fn tables(&self) -> Tables<'_> {
         let [languages, societies, categories] = &self.tables;
         Tables {
@@ -165,8 +207,7 @@ pub fn read_request(input: &mut impl Read) -> io::Result<Option<Request>> {
     input.read_exact(&mut head)?;
     let mut part = |which: usize| {
         let length = &head[9 + 4 * which..13 + 4 * which];
-        let length = u32::from_le_bytes(length.try_into().expect("four bytes"));
-        let mut bytes = vec![0; length as usize];
+        let mut bytes = vec![0; u32_of(length) as usize];
         input.read_exact(&mut bytes).map(|()| bytes)
     };
     Ok(Some(Request {
@@ -179,10 +220,15 @@ pub fn read_request(input: &mut impl Read) -> io::Result<Option<Request>> {
     }))
 }
 
+fn u32_of(bytes: &[u8]) -> u32 {
+    u32::from_le_bytes(bytes.try_into().expect("four bytes"))
+}
+
 /// What is answered to a request.
 #[derive(Clone, Debug, PartialEq, Eq)]
 pub struct Reply {
-    /// The packed answer; for `bits` the number of findings.
+    /// The packed answer; for `bits` the number of findings, for `record` that
+    /// of the records.
     pub packed: u64,
     /// Groups and transactions, 0 where refused or not asked for; for `bits`
     /// the lowest finding and 0.
@@ -222,6 +268,11 @@ impl Reply {
         u64::from_le_bytes(bytes.try_into().expect("eight bytes"))
     }
 
+    /// The lengths that `record` gives, one a record.
+    pub fn lengths(&self) -> impl Iterator<Item = u32> + '_ {
+        self.buffers[0].chunks_exact(4).map(u32_of)
+    }
+
     pub fn bytes(&self) -> Vec<u8> {
         let mut bytes = Vec::with_capacity(25 + self.buffers[0].len() + self.buffers[1].len());
         for number in [self.packed, self.others[0], self.others[1]] {
@@ -249,6 +300,7 @@ impl Reply {
         let [first, second] = self.others;
         let mut text = match (call, self.refusal()) {
             (Call::Bits, _) => format!("{} findings, lowest {first}", self.packed),
+            (Call::Record, _) => format!("{} records", self.packed),
             (Call::Structure | Call::Counted, 0) => format!(
                 "passed: {first} groups, {second} transactions, {} records",
                 self.packed
@@ -291,6 +343,17 @@ pub fn expected(request: &Request) -> Reply {
                 changed: false,
                 buffers: [first, second],
             }
+        }
+        Call::Record => {
+            let records = request.records();
+            let length = |record: &&[u8]| reference::record_length(record).to_le_bytes();
+            first = records.iter().flat_map(length).collect();
+            return Reply {
+                packed: records.len() as u64,
+                others: [0; 2],
+                changed: false,
+                buffers: [first, second],
+            };
         }
         Call::Listing => unreachable!("the listing is no request"),
     };

@@ -93,6 +93,9 @@ pub struct Case {
     pub out: Vec<u8>,
     /// The set whose number and lowest are asked.
     pub set: u64,
+    /// The records whose types' lengths are asked, where they are not the
+    /// file's.
+    pub records: Vec<Vec<u8>>,
     /// What is to be compared.
     pub calls: Vec<Call>,
 }
@@ -102,6 +105,10 @@ impl Case {
     /// are just long enough.
     pub fn new(seed: u64, kind: String, file: Vec<u8>, calls: &[Call]) -> Case {
         let mut random = Random::new(seed);
+        let mut calls = calls.to_vec();
+        if !file.is_empty() {
+            calls.push(Call::Record);
+        }
         // Nothing for what is not asked.
         let asked = |some: &[Call]| calls.iter().any(|call| some.contains(call));
         let records = match asked(&[Call::Check, Call::Within]) {
@@ -121,13 +128,21 @@ impl Case {
             findings: random.pattern(8 * records),
             out: random.pattern(numbered),
             set: random.draw(),
+            records: Vec::new(),
             file,
-            calls: calls.to_vec(),
+            calls,
         }
     }
 
     /// What a call is asked.
     pub fn request(&self, call: Call, guard: Guard) -> Request {
+        if call == Call::Record {
+            let made: Vec<_> = self.records.iter().map(Vec::as_slice).collect();
+            return match self.records.is_empty() {
+                true => Request::of_records(&texts(&self.file), guard),
+                false => Request::of_records(&made, guard),
+            };
+        }
         let mut request = Request {
             call,
             guard,
@@ -159,6 +174,19 @@ impl Case {
 /// How many lines a file has.
 fn records_in(file: &[u8]) -> usize {
     file.windows(2).filter(|pair| pair == b"\r\n").count()
+}
+
+/// A file's records, and what stands after the last pair.
+fn texts(file: &[u8]) -> Vec<&[u8]> {
+    let (mut texts, mut left) = (Vec::new(), file);
+    while let Some(end) = left.windows(2).position(|pair| pair == b"\r\n") {
+        texts.push(&left[..end]);
+        left = &left[end + 2..];
+    }
+    if !left.is_empty() {
+        texts.push(left);
+    }
+    texts
 }
 
 /// Smaller seeds are numbers of files that are made once each.

@@ -138,6 +138,25 @@ pub extern "C" fn cwr_findings_lowest(set: u64) -> u32 {
 /// # Safety
 /// As above.
 #[no_mangle]
+pub unsafe extern "C" fn cwr_record_length(record: *const u8, len: usize) -> u32 {
+    if fault("reads-after-record") {
+        look(record.add(len));
+    }
+    if fault("reads-before-record") {
+        look(record.sub(1));
+    }
+    if fault("reads-three-bytes") {
+        look(record.add(2));
+    }
+    if fault("changes-record") && len > 0 {
+        record.cast_mut().write_volatile(0);
+    }
+    reference::record_length(from_raw_parts(record, len))
+}
+
+/// # Safety
+/// As above.
+#[no_mangle]
 pub unsafe extern "C" fn probe_structure(file: *const u8, len: usize) -> u64 {
     if fault("probe-reads-after-file") {
         look(file.add(len));

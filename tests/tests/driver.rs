@@ -69,10 +69,9 @@ fn no_difference() {
     for options in [&["--files", "1500"][..], &["--guard"]] {
         let (code, text) = compare(options, "");
         assert_eq!(code, Some(0), "{text}");
-        assert!(
-            text.contains("\nwithin ") && text.contains("\ncounted "),
-            "{text}"
-        );
+        for call in ["within", "record", "counted"] {
+            assert!(text.contains(&format!("\n{call} ")), "{text}");
+        }
     }
 }
 
@@ -85,9 +84,13 @@ fn faults_about_memory_are_found() {
         ("writes-after-findings", "after", "SIGSEGV"),
         ("writes-before-verdicts", "before", "SIGSEGV"),
         ("writes-after-out", "after", "SIGSEGV"),
+        ("reads-after-record", "after", "SIGSEGV"),
+        ("reads-before-record", "before", "SIGSEGV"),
+        ("reads-three-bytes", "after", "SIGSEGV"),
         ("probe-reads-after-file", "after", "SIGSEGV"),
         ("changes-file", "after", "is changed"),
         ("changes-table", "after", "is changed"),
+        ("changes-record", "after", "is changed"),
     ] {
         let (code, text) = compare(&["--guard", "--files", "100"], fault);
         assert_eq!(code, Some(1), "{fault}: {text}");

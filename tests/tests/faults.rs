@@ -57,7 +57,7 @@ fn no_difference_without_a_fault() {
     );
     let (code, text) = compare(&["--guard"], &[], true);
     assert_eq!(code, Some(0), "{text}");
-    // Those that are made for the listing program alone are not among them.
+    // One for the listing program alone is among them only for its records.
     assert!(text.ends_with(" files, no difference\n") && !text.contains("\nlisting"));
 }
 
@@ -69,6 +69,8 @@ fn one_call_alone() {
         ("structure", "copies"),
         ("number", "writes-nothing"),
         ("check", "bits-highest"),
+        ("bits", "record-8-bits"),
+        ("record", "refuses-everything"),
     ] {
         let options: Vec<_> = run.into_iter().chain([call]).collect();
         let (code, text) = compare(&options, &["--fault", fault], true);
@@ -78,6 +80,7 @@ fn one_call_alone() {
             "within",
             "number",
             "bits",
+            "record",
             "structure",
             "counted",
             "listing",

@@ -76,6 +76,11 @@ pub fn of_replies(
             add(&name, &words);
         }
     }
+    if call == Call::Record {
+        if let Some((name, words)) = of_lengths(request, reference, library) {
+            add(&name, &words);
+        }
+    }
     for (name, which) in [("buffer", 0), ("second", 1)] {
         let (one, other) = (&reference.buffers[which], &library.buffers[which]);
         let differing: Vec<usize> = (0..one.len()).filter(|&at| one[at] != other[at]).collect();
@@ -114,6 +119,22 @@ fn of_records(request: &Request, reference: &Reply, library: &Reply) -> Option<(
         "{kind}: reference {}; library {}",
         words(reference),
         words(library)
+    );
+    Some((format!("record {record}"), words))
+}
+
+/// The first record whose type has another length.
+fn of_lengths(request: &Request, reference: &Reply, library: &Reply) -> Option<(String, String)> {
+    let mut answers = reference.lengths().zip(library.lengths());
+    let record = answers.position(|(one, other)| one != other)?;
+    let length = |reply: &Reply| reply.lengths().nth(record).unwrap_or(0);
+    let text = request.records()[record];
+    let words = format!(
+        "\"{}\" of {} bytes: reference {}, library {}",
+        text[..text.len().min(3)].escape_ascii(),
+        text.len(),
+        length(reference),
+        length(library)
     );
     Some((format!("record {record}"), words))
 }

@@ -9,6 +9,9 @@ use crate::options::Options;
 /// An answer of a call: a refusal, 0 for passed, or too long for the listing.
 pub const TOO_LONG: u64 = 99;
 
+/// That of `record` for an unknown type; 0 for a known one.
+const NO_LENGTH: u64 = 98;
+
 const FINDINGS: usize = 47;
 
 #[derive(Default)]
@@ -40,6 +43,15 @@ impl Tally {
         let call = request.call;
         if call == Call::Bits {
             return self.answer(call, 0);
+        }
+        if call == Call::Record {
+            // Files that have such a record.
+            for (answer, known) in [(0, true), (NO_LENGTH, false)] {
+                if reply.lengths().any(|length| (length > 0) == known) {
+                    self.answer(call, answer);
+                }
+            }
+            return;
         }
         self.answer(call, reply.refusal());
         if !call.is_check() || reply.refusal() != 0 {
@@ -94,10 +106,12 @@ impl Tally {
                 continue;
             }
             // Refusals in their order, then passed.
-            for answer in (1..=11).chain([TOO_LONG, 0]) {
+            for answer in (1..=11).chain([TOO_LONG, NO_LENGTH, 0]) {
                 let number = self.answers.get(&(call, answer)).copied().unwrap_or(0);
                 let words = match answer {
+                    0 if call == Call::Record => "length".to_string(),
                     0 => "passed".to_string(),
+                    NO_LENGTH => "no length".to_string(),
                     TOO_LONG => "too long".to_string(),
                     refusal => format!("refused {refusal}"),
                 };
@@ -132,6 +146,9 @@ fn least_answer(call: Call, answer: u64) -> u64 {
         (Call::Listing, _) => 0,
         (Call::Bits, 0) => 500,
         (Call::Bits, _) | (_, TOO_LONG) => 0,
+        (Call::Record, 0) => 15_000,
+        (Call::Record, NO_LENGTH) => 1000,
+        (Call::Record, _) | (_, NO_LENGTH) => 0,
         (Call::Within, 1) => 200,
         (_, 1) => 0,
         (Call::Check | Call::Within, 2) => 200,

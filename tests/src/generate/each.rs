@@ -1,9 +1,10 @@
 //! Small files that go through every possibility in turn: every type, every
-//! step, every number's byte, every byte value. Their seeds are their numbers
-//! here, counted from `FIRST`.
+//! step, every number's byte, every byte value; and records by themselves. Their
+//! seeds are their numbers here, counted from `FIRST`.
 
 mod judged;
 mod lending;
+mod single;
 
 use std::sync::OnceLock;
 
@@ -38,6 +39,7 @@ fn all() -> &'static [Case] {
         bytes(&mut all);
         cuts(&mut all);
         buffers(&mut all);
+        single::all(&mut all);
         all
     })
 }

@@ -5,7 +5,7 @@ use std::collections::{HashMap, HashSet};
 use super::damage::{all, FAMILIES};
 use super::*;
 use crate::calls::expected;
-use crate::reference::types::{find, Class};
+use crate::reference::types::{find, Class, TYPES};
 use crate::reference::{listing, numbering, structure, Answer};
 
 fn refusal(answer: Answer) -> u32 {
@@ -145,6 +145,7 @@ fn a_seed_gives_the_same_file() {
         assert_eq!(one.findings, other.findings);
         assert_eq!(one.out, other.out);
         assert_eq!(one.set, other.set);
+        assert_eq!(one.records, other.records);
         assert_eq!(one.calls, other.calls);
     }
 }
@@ -202,7 +203,7 @@ fn promises_of_numbering() {
 
 #[test]
 fn boundary_answers() {
-    // The refusals of the calls in their order, 0 for passed.
+    // The refusals of the calls that judge a file, in their order, 0 for passed.
     let expected_answers: [&[u64]; 34] = [
         &[3, 3],
         &[6, 6],
@@ -243,8 +244,14 @@ fn boundary_answers() {
     for (seed, refusals) in expected_answers.into_iter().enumerate() {
         let case = case(seed as u64).unwrap();
         let answer = |&call| expected(&case.request(call, Guard::None)).refusal();
-        let answers: Vec<_> = case.calls.iter().map(answer).collect();
-        assert_eq!(answers, refusals, "{}", case.kind);
+        let (record, judging) = case.calls.split_last().unwrap();
+        let answers: Vec<_> = judging.iter().map(answer).collect();
+        assert_eq!(
+            (answers.as_slice(), *record),
+            (refusals, Call::Record),
+            "{}",
+            case.kind
+        );
     }
     assert!(case(boundary::number()).is_none());
     assert!(case(each::FIRST + each::number()).is_none());
@@ -267,7 +274,8 @@ fn two_faults() {
     ];
     assert_eq!(calls.map(answered), [0x6_0000_0009; 5]);
     assert_eq!(listing(&case.file), b"REFUSED 6 9\n");
-    assert_eq!(case.calls, [&calls[..], &[Call::Listing]].concat());
+    let others = [Call::Listing, Call::Record];
+    assert_eq!(case.calls, [&calls[..], &others].concat());
 }
 
 /// Totals and numbers that do not fit 32 or 16 bits.
@@ -354,6 +362,61 @@ fn a_run_is_wide() {
         wrong_bytes.values().all(|&times| times >= 2),
         "{wrong_bytes:?}"
     );
+}
+
+/// The records whose types' lengths are asked: those of every file, and what no
+/// file has.
+#[test]
+fn records_of_every_kind() {
+    let mut records = HashSet::new();
+    for seed in each::FIRST..each::FIRST + each::number() {
+        let case = case(seed).unwrap();
+        let asked = case.calls.contains(&Call::Record);
+        assert_eq!(
+            asked,
+            !case.file.is_empty() || !case.records.is_empty(),
+            "{}",
+            case.kind
+        );
+        records.extend(case.records);
+    }
+    for row in &TYPES {
+        let name = row.name.as_bytes();
+        assert!(records.contains(name) && records.contains(&right::plain(row)));
+        for at in 0..3 {
+            for byte in 0..=255 {
+                let mut near = name.to_vec();
+                near[at] = byte;
+                assert!(records.contains(&near), "{near:?}");
+            }
+        }
+    }
+    for aside in ["AGR", "ISW", "EXC", "ACK"] {
+        assert!(records.contains(aside.as_bytes()));
+    }
+    let of_length = |length| records.iter().filter(move |record| record.len() == length);
+    assert_eq!(
+        [0, 1, 2].map(|length| of_length(length).count()),
+        [1, 256, 65_536]
+    );
+    let letters = |record: &&Vec<u8>| record.iter().all(u8::is_ascii_uppercase);
+    assert_eq!(of_length(3).filter(letters).count(), 26 * 26 * 26);
+    let high = |record: &&Vec<u8>| record.iter().all(|&byte| byte > 127);
+    assert!(of_length(3).filter(high).count() > 500);
+    let known = |record: &&Vec<u8>| find(record).is_some();
+    assert!(records
+        .iter()
+        .filter(known)
+        .any(|record| record.len() > 65_535));
+    // In files: also what stands after the last pair.
+    for (file, records) in [
+        (&b""[..], &[][..]),
+        (b"\r\n", &[&b""[..]]),
+        (b"NWR\r\n\r\nTE", &[b"NWR", b"", b"TE"]),
+        (b"A\rB\nC\r\r\n\n\r", &[b"A\rB\nC\r", b"\n\r"]),
+    ] {
+        assert_eq!(texts(file), records);
+    }
 }
 
 #[test]

@@ -8,13 +8,14 @@ mod asked;
 mod findings;
 mod lending;
 mod listing;
+mod record;
 mod structure;
 
 use std::io::{self, stdin, stdout, BufReader, BufWriter, Read, Write};
 use std::process::exit;
 
 use asked::Asked;
-use tests::calls::{read_request, write_reply, Reply};
+use tests::calls::{read_request, write_reply, Call, Reply};
 use tests::reference;
 
 /// A name and what is answered. A name that ends with ", large" is of a fault
@@ -29,6 +30,7 @@ fn faults() -> impl Iterator<Item = &'static Fault> {
         .iter()
         .chain(lending::FAULTS)
         .chain(findings::FAULTS)
+        .chain(record::FAULTS)
 }
 
 fn main() -> io::Result<()> {
@@ -71,12 +73,19 @@ fn main() -> io::Result<()> {
     while let Some(request) = read_request(&mut input)? {
         let asked = Asked(request);
         let reply = match fault {
-            Some((_, fault)) => fault(&asked),
-            None => asked.right(),
+            // The faults of `record` are of no other call, nor others of it.
+            Some((name, fault)) if of_record(name) == (asked.call == Call::Record) => fault(&asked),
+            _ => asked.right(),
         };
         write_reply(&mut output, &reply)?;
     }
     Ok(())
+}
+
+fn of_record(name: &str) -> bool {
+    record::FAULTS
+        .iter()
+        .any(|(of_record, _)| *of_record == name)
 }
 
 fn usage() -> ! {

@@ -18,6 +18,7 @@ pub use lent::Tables;
 pub use listing::listing;
 pub use numbering::numbering;
 pub use structure::structure;
+pub use types::record_length;
 
 /// What a call answers.
 #[derive(Clone, Copy, Debug, PartialEq, Eq)]

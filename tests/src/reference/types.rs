@@ -85,3 +85,8 @@ pub fn find(line: &[u8]) -> Option<&'static Type> {
     let name = line.get(..3)?;
     TYPES.iter().find(|row| row.name.as_bytes() == name)
 }
+
+/// The length that a record of this one's type has; 0 where it has no type.
+pub fn record_length(record: &[u8]) -> u32 {
+    find(record).map_or(0, |row| row.length() as u32)
+}

@@ -2,7 +2,7 @@
 
 use super::*;
 use crate::reference::types::{self, Class, TYPES};
-use crate::reference::{numbering, structure};
+use crate::reference::{numbering, record_length, structure};
 
 fn ter(prefix: &str) -> Vec<u8> {
     record(24, &[(1, "TER"), (4, prefix)])
@@ -94,6 +94,48 @@ fn lengths_of_the_readings() {
     assert_eq!((seen, TYPES.len()), (38, 38));
     for unknown in ["AGR", "ISW", "EXC", "ACK", "nwr", "NW", "", "   "] {
         assert_eq!(types::find(unknown.as_bytes()), None);
+    }
+}
+
+#[test]
+fn lengths_of_records() {
+    for (record, length) in [
+        (&b"HDR"[..], 167),
+        (b"NWR", 260),
+        (b"REC", 540),
+        (b"TRL", 24),
+        // Whatever comes after the three bytes.
+        (b"GRT0", 37),
+        (b"NAT\0\r\n\xff", 663),
+        (b"XRFNWR", 38),
+        (b"AGR", 0),
+        (b"ISW", 0),
+        (b"EXC", 0),
+        (b"ACK", 0),
+        (b"NWr", 0),
+        (b"NWT", 0),
+        (b" NWR", 0),
+        (b"RWN", 0),
+        (b"\xceWR", 0),
+        (b"\xff\xff\xff", 0),
+        (b"NW", 0),
+        (b"N", 0),
+        (b"", 0),
+    ] {
+        assert_eq!(record_length(record), length, "{record:?}");
+    }
+    // A record of its type's length, and those that 6 refuses.
+    for record in records_a() {
+        assert_eq!(record_length(&record) as usize, record.len());
+        assert_eq!(
+            record_length(&record[..record.len() - 1]),
+            record_length(&record)
+        );
+        assert_eq!(
+            record_length(&[&record[..], b" "].concat()),
+            record_length(&record)
+        );
+        assert_eq!(record_length(&record[..2]), 0);
     }
 }
 
