@@ -336,21 +336,21 @@ static void make_one(struct file *f, uint64_t share) {
 
 /* ---- tables as large as they may be, and codes that are not in them */
 
-enum { MOST_CODE_BYTES = 3, ASKED = 128, SLOTS = 4096 };
+enum { MOST_CODE_BYTES = 3, ASKED = 128, HINTS = 4093 };
 
-/* The slot that crate lookup looks a code up in: were it another, the file would still be right, and no longer the worst. */
-static size_t slot_of(const uint8_t *code, size_t size) {
-    return ((code[0] * 27u + code[1]) * 27u + code[size - 1]) % SLOTS;
+/* The hint that crate tables looks at first: were it another, the file would still be right, and no longer the worst. */
+static size_t hint_of(const uint8_t *code, size_t size) {
+    return ((code[0] * 256u + code[1]) * 256u + code[size - 1] + 1) % HINTS;
 }
 
-static bool slot_taken(const struct codes *table, const uint8_t *code, size_t size) {
+static bool hint_taken(const struct codes *table, const uint8_t *code, size_t size) {
     for (size_t at = 0; at < table->length; at += size)
-        if (slot_of(table->bytes + at, size) == slot_of(code, size))
+        if (hint_of(table->bytes + at, size) == hint_of(code, size))
             return true;
     return false;
 }
 
-/* Some code or other, of the letters, digits and signs of ASCII: among letters and digits alone no two codes of two have the same slot. */
+/* Some code or other, of the letters, digits and signs of ASCII: among letters and digits alone no two codes of two have the same hint. */
 static void put_some_code(struct file *f, uint8_t *at, size_t size) {
     for (size_t i = 0; i < size; i++)
         at[i] = (uint8_t)('!' + below(f, '~' - '!' + 1));
@@ -368,14 +368,14 @@ static void fill_table(struct file *f, int which, uint8_t *bytes, size_t size) {
     }
 }
 
-/* Codes that are not in it, and either all or none of which are looked up where another stands. */
+/* Codes that are not in it, and either all or none of which have a hint that is another's. */
 static void fill_asked(struct file *f, int which, uint8_t *bytes, size_t size, bool taken) {
     struct codes *asked = &f->asked[which];
     *asked = (struct codes){bytes, 0};
     while (asked->length < ASKED * size) {
         uint8_t *at = bytes + asked->length;
         put_some_code(f, at, size);
-        if (!is_in(&f->tables[which], at, size) && !(size == 3 && same(at, "SER")) && slot_taken(&f->tables[which], at, size) == taken)
+        if (!is_in(&f->tables[which], at, size) && !(size == 3 && same(at, "SER")) && hint_taken(&f->tables[which], at, size) == taken)
             asked->length += size;
     }
 }
