@@ -4,10 +4,9 @@
 
 #include <stdbool.h>
 
-#include "tables.h"
+#include "out.h"
+#include "run.h"
 #include "text.h"
-
-enum { VERDICTS = 5 };
 
 struct check {
     struct bytes file;
@@ -19,11 +18,13 @@ struct check {
     uint8_t *findings;
 };
 
-/* No tolerance of choice: the short form of the call. False, with words on standard error, where there is no memory or the library does
- * not keep to its interface; then there is nothing to free. */
-bool check_run(struct bytes file, const struct tables *tables, const uint64_t *tolerance, struct check *check);
+/* False where there is no memory or the library does not keep to its interface; then there is nothing to free. */
+bool check_run(const struct run *run, struct bytes file, struct check *check, struct why *why);
 
 void check_free(struct check *check);
+
+/* The set of findings of a record. */
+uint64_t check_findings(const struct check *check, size_t record);
 
 /* Groups and transactions of a file that passed. */
 struct counts {
@@ -33,14 +34,7 @@ struct counts {
 /* One record more. */
 void count_record(struct counts *counts, struct bytes record);
 
-struct counts check_counts(const struct check *check);
-
+/* Whether a transaction begins with it. */
 bool is_header(struct bytes record);
-
-/* The set of findings of a record. */
-uint64_t check_findings(const struct check *check, size_t record);
-
-/* Whether any record has a finding. */
-bool check_found(const struct check *check);
 
 #endif

@@ -1,21 +1,29 @@
 #include "options.h"
 
-#include <stddef.h>
 #include <string.h>
 
 #include "out.h"
+#include "words.h"
 
 const char options_usage[] =
-    "usage: cwrcheck [--tolerance N] [--list] FILE TABLES   check FILE, a CWR 2.2 file\n"
-    "       cwrcheck --number OUT [--force] FILE            write FILE with its numbers put in to OUT\n"
-    "       cwrcheck --help\n"
+    "usage: cwrcheck --tables FOLDER [OPTION..] FILE..   check files, CWR 2.2\n"
+    "       cwrcheck --number OUT [--force] FILE         write FILE with its numbers put in to OUT\n"
+    "       cwrcheck --help | --version\n"
     "\n"
-    "  TABLES         a folder with languages.txt, societies.txt and categories.txt\n"
-    "  --tolerance N  how far shares may be off, 0 to 6 hundredths of a percent; 6 where it is not given\n"
-    "  --list         a line a record, for other programs to read\n"
-    "  --force        replace OUT where it exists; FILE itself is never replaced\n"
+    "  FILE             a file, - for standard input, or a folder: each ordinary file in it, in the order of their names\n"
+    "  --recursive      of the folders in a folder too\n"
+    "  --tables FOLDER  where languages.txt, societies.txt and categories.txt are\n"
+    "  --tolerance N    how far shares may be off, 0 to 6 hundredths of a percent; 6 where it is not given\n"
+    "  --format NAME    text, line (a line a finding, as compilers print) or json (an object a line); text where it is not given\n"
+    "  --list           a line a record of one file, for other programs to read\n"
+    "  --summary        the outcome of each file, the totals and how often each finding holds, and no more\n"
+    "  --level LEVEL    findings of this level and above: FR, RR, TR or GR\n"
+    "  --most N         findings of a file that are told, or all; 1000 where it is not given\n"
+    "  --html OUT       write a page for the clerk to OUT as well\n"
+    "  --force          replace OUT where it exists; FILE itself is never replaced\n"
     "\n"
-    "status: 0 all accepted, or numbered; 1 findings; 2 refused; 3 wrong use, or reading or writing failed\n";
+    "status: 0 all accepted, or numbered; 1 defaults or records left out; 2 works rejected; 3 files refused; 4 wrong use, or reading\n"
+    "or writing failed\n";
 
 static bool wrong_use(const char *words, const char *about) {
     return complain("%s%s; cwrcheck --help says how it is used", words, about);
@@ -33,61 +41,148 @@ static bool read_number(const char *word, uint64_t *number) {
     return *word != '\0';
 }
 
-/* The words of an option beside itself: 0 or 1. Below 0, with words on standard error, where it is wrong. */
+/* ---- options with a value */
+
+static bool take_tables(struct options *options, const char *value) {
+    options->tables = value;
+    return true;
+}
+
+static bool take_tolerance(struct options *options, const char *value) {
+    options->has_tolerance = true;
+    return read_number(value, &options->tolerance) || wrong_use("the tolerance is no number: ", value);
+}
+
+static bool take_format(struct options *options, const char *value) {
+    static const char *const names[] = {[FORMAT_TEXT] = "text", [FORMAT_LINE] = "line", [FORMAT_JSON] = "json"};
+    options->has_format = true;
+    for (size_t i = 0; i < sizeof names / sizeof names[0]; i++)
+        if (strcmp(value, names[i]) == 0) {
+            options->format = (enum format)i;
+            return true;
+        }
+    return wrong_use("the format is none of text, line and json: ", value);
+}
+
+static bool take_level(struct options *options, const char *value) {
+    options->has_level = true;
+    options->level = level_named(value);
+    return options->level != 0 || wrong_use("the level is none of FR, RR, TR and GR: ", value);
+}
+
+static bool take_most(struct options *options, const char *value) {
+    uint64_t number = SIZE_MAX;
+    if (strcmp(value, "all") != 0 && !read_number(value, &number))
+        return wrong_use("--most takes a number or all: ", value);
+    options->has_most = true;
+    options->most = number < SIZE_MAX ? (size_t)number : SIZE_MAX;
+    return true;
+}
+
+/* An option in the place of a name is a slip, and a file of that name would be hard to get rid of. */
+static bool take_out(const char **out, const char *value) {
+    *out = value;
+    return (value[0] != '\0' && value[0] != '-') ||
+           complain("this is no name to write to: \"%s\"; where it begins with -, put ./ before it", value);
+}
+
+static bool take_html(struct options *options, const char *value) {
+    return take_out(&options->html, value);
+}
+
+static bool take_numbered(struct options *options, const char *value) {
+    return take_out(&options->number, value);
+}
+
+/* ---- all options */
+
+struct option {
+    const char *name;
+    size_t flag;                                                /* where in the options it is noted that it was given; or */
+    bool (*take)(struct options *options, const char *value); /* what it does with its value */
+};
+
+#define FLAG(name) offsetof(struct options, name), NULL
+
+static const struct option known[] = {
+    {"--help", FLAG(help)},
+    {"-h", FLAG(help)},
+    {"--version", FLAG(version)},
+    {"--list", FLAG(list)},
+    {"--summary", FLAG(summary)},
+    {"--recursive", FLAG(recursive)},
+    {"--force", FLAG(force)},
+    {"--tables", 0, take_tables},
+    {"--tolerance", 0, take_tolerance},
+    {"--format", 0, take_format},
+    {"--level", 0, take_level},
+    {"--most", 0, take_most},
+    {"--html", 0, take_html},
+    {"--number", 0, take_numbered},
+};
+
+/* The option that a word is, or begins with before a `=`. */
+static const struct option *option_of(const char *word) {
+    size_t length = strcspn(word, "=");
+    for (size_t i = 0; i < sizeof known / sizeof known[0]; i++)
+        if (strlen(known[i].name) == length && strncmp(known[i].name, word, length) == 0)
+            return &known[i];
+    return NULL;
+}
+
+/* How many words beside itself it takes: 0 or 1. Below 0, with words on standard error, where it is wrong. */
 static int take_option(struct options *options, const char *word, const char *next) {
-    bool tolerance = strcmp(word, "--tolerance") == 0, number = strcmp(word, "--number") == 0;
-    if (strcmp(word, "--help") == 0) {
-        options->help = true;
-    } else if (strcmp(word, "--list") == 0) {
-        options->list = true;
-    } else if (strcmp(word, "--force") == 0) {
-        options->force = true;
-    } else if (!tolerance && !number) {
+    const struct option *option = option_of(word);
+    const char *equals = strchr(word, '=');
+    if (!option) {
         wrong_use("unknown option ", word);
         return -1;
-    } else if (!next) {
+    }
+    if (!option->take) {
+        *((bool *)((char *)options + option->flag)) = true;
+        return !equals || wrong_use("this option takes no value: ", word) ? 0 : -1;
+    }
+    if (!equals && !next) {
         wrong_use("a word is missing after ", word);
         return -1;
-    } else if (number) {
-        options->number = next;
-        return 1;
-    } else if (read_number(next, &options->tolerance)) {
-        options->has_tolerance = true;
-        return 1;
-    } else {
-        wrong_use("the tolerance is no number: ", next);
-        return -1;
     }
-    return 0;
+    if (!option->take(options, equals ? equals + 1 : next))
+        return -1;
+    return equals ? 0 : 1;
 }
 
-static bool take_name(struct options *options, const char *word) {
-    if (!options->file)
-        options->file = word;
-    else if (!options->tables)
-        options->tables = word;
-    else
-        return wrong_use("one name too many: ", word);
+/* ---- what fits together */
+
+/* Numbering looks at no table and at no share, and reports nothing. */
+static bool fits_numbering(const struct options *options) {
+    if (options->tables || options->list || options->summary || options->recursive || options->html || options->has_tolerance ||
+        options->has_format || options->has_level || options->has_most)
+        return wrong_use("--number takes one file, and of the options --force alone", "");
+    return options->count == 1 || wrong_use("--number takes one file", "");
+}
+
+static bool fits_check(const struct options *options) {
+    if (!options->tables)
+        return wrong_use("no folder of tables is named: --tables FOLDER", "");
+    if (options->force && !options->html)
+        return wrong_use("--force belongs to --number and --html", "");
+    if (options->list && (options->has_format || options->summary || options->has_level || options->has_most || options->html))
+        return wrong_use("--list is a format of its own, and takes neither --summary nor --level nor --most nor --html", "");
+    if (options->summary && options->format == FORMAT_LINE)
+        return wrong_use("--summary has no lines for findings: --format text or json", "");
     return true;
 }
 
-/* Numbering looks at no table and at no share. */
 static bool fits(const struct options *options) {
-    if (options->help)
+    if (options->help || options->version)
         return true;
-    if (!options->file)
+    if (options->count == 0)
         return wrong_use("no file is named", "");
-    if (options->number && (options->tables || options->list || options->has_tolerance))
-        return wrong_use("--number takes one file, and neither tables nor --list nor --tolerance", "");
-    if (!options->number && options->force)
-        return wrong_use("--force belongs to --number", "");
-    if (!options->number && !options->tables)
-        return wrong_use("no folder of tables is named", "");
-    return true;
+    return options->number ? fits_numbering(options) : fits_check(options);
 }
 
-bool options_read(struct options *options, int count, char *const *words) {
-    *options = (struct options){0};
+bool options_read(struct options *options, int count, char *const *words, const char **room) {
+    *options = (struct options){.most = MOST_FINDINGS, .level = 1, .files = room};
     bool names = false; /* after -- every word is a name */
     for (int i = 1; i < count; i++) {
         if (!names && strcmp(words[i], "--") == 0) {
@@ -97,9 +192,11 @@ bool options_read(struct options *options, int count, char *const *words) {
             if (more < 0)
                 return false;
             i += more;
-        } else if (!take_name(options, words[i])) {
-            return false;
+        } else {
+            room[options->count++] = words[i];
         }
     }
+    if (options->list)
+        options->format = FORMAT_LIST;
     return fits(options);
 }

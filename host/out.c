@@ -4,6 +4,8 @@
 #include <stdarg.h>
 #include <string.h>
 
+#include "letters.h"
+
 /* Nothing is written after a failure: a later write could succeed and leave a hole. */
 void say(struct out *out, const char *format, ...) {
     if (out->error != 0)
@@ -15,24 +17,40 @@ void say(struct out *out, const char *format, ...) {
     va_end(words);
 }
 
-void say_escaped(struct out *out, struct bytes text, size_t most) {
-    for (size_t i = 0; i < text.length && i < most; i++) {
-        uint8_t byte = text.at[i];
-        if (byte == '"' || byte == '\\')
-            say(out, "\\%c", byte);
-        else if (byte >= 32 && byte < 127)
-            say(out, "%c", byte);
-        else
-            say(out, "\\x%02x", byte);
+void say_count(struct out *out, size_t count, const char *one) {
+    say(out, "%zu %s%s", count, one, count == 1 ? "" : "s");
+}
+
+static void say_letter(struct out *out, struct letter letter) {
+    if (!is_control(letter.code)) {
+        say(out, "%s", utf8_of(letter.code).bytes);
+        return;
     }
-    if (text.length > most)
-        say(out, "...");
+    for (size_t i = 0; i < letter.bytes.length; i++)
+        say(out, "\\x%02x", letter.bytes.at[i]);
+}
+
+void say_text(struct out *out, struct bytes text) {
+    struct letters letters = letters_of(text);
+    struct letter letter;
+    while (letters_next(&letters, &letter)) {
+        if (letter.code == '"' || letter.code == '\\')
+            say(out, "\\");
+        say_letter(out, letter);
+    }
 }
 
 void say_quoted(struct out *out, struct bytes text, size_t most) {
     say(out, "\"");
-    say_escaped(out, text, most);
-    say(out, "\"");
+    say_text(out, text_field(text, 1, most));
+    say(out, text.length > most ? "...\"" : "\"");
+}
+
+void say_name(struct out *out, const char *name) {
+    struct letters letters = letters_of_name(name);
+    struct letter letter;
+    while (letters_next(&letters, &letter))
+        say_letter(out, letter);
 }
 
 bool out_close(struct out *out) {
@@ -42,11 +60,22 @@ bool out_close(struct out *out) {
 }
 
 bool complain(const char *format, ...) {
+    struct out out = {stderr, 0};
+    char message[8192]; /* longer than any path that can be opened */
     va_list words;
     va_start(words, format);
-    fputs("cwrcheck: ", stderr);
-    vfprintf(stderr, format, words);
-    fputs("\n", stderr);
+    vsnprintf(message, sizeof message, format, words);
+    va_end(words);
+    say(&out, "cwrcheck: ");
+    say_name(&out, message);
+    say(&out, "\n");
+    return false;
+}
+
+bool fail(struct why *why, const char *format, ...) {
+    va_list words;
+    va_start(words, format);
+    vsnprintf(why->words, sizeof why->words, format, words);
     va_end(words);
     return false;
 }

@@ -5,23 +5,31 @@
 #include <string.h>
 
 #include "cwr.h"
-#include "files.h"
 #include "out.h"
+#include "reading.h"
 
 /* Far more than 1,024 codes with a remark to each need. */
 enum { MOST_TABLE_BYTES = 1048576, SHOWN_BYTES = 20 };
 
 static const struct {
-    const char *name, *codes;
+    const char *name, *codes, *plural;
     size_t width;
 } kinds[TABLES] = {
-    {"languages.txt", "language", CWR_LANGUAGE_BYTES},
-    {"societies.txt", "society", CWR_SOCIETY_BYTES},
-    {"categories.txt", "distribution category", CWR_CATEGORY_BYTES},
+    {"languages.txt", "language", "languages", CWR_LANGUAGE_BYTES},
+    {"societies.txt", "society", "societies", CWR_SOCIETY_BYTES},
+    {"categories.txt", "distribution category", "categories", CWR_CATEGORY_BYTES},
 };
 
 const char *table_name(size_t place) {
     return place < TABLES ? kinds[place].name : "no table";
+}
+
+const char *table_plural(size_t place) {
+    return kinds[place].plural;
+}
+
+size_t table_count(const struct tables *tables, size_t place) {
+    return tables->of[place].length / kinds[place].width;
 }
 
 /* Takes the next line off the text, without LF or CR LF; false where nothing is left. */
@@ -49,7 +57,9 @@ static struct bytes without_mark(struct bytes text) {
 
 static bool wrong_code(const char *path, size_t number, struct bytes code, size_t place) {
     struct out out = {stderr, 0};
-    say(&out, "cwrcheck: %s, line %zu: ", path, number);
+    say(&out, "cwrcheck: ");
+    say_name(&out, path);
+    say(&out, ", line %zu: ", number);
     say_quoted(&out, code, SHOWN_BYTES);
     say(&out, " has %zu characters; a %s code has %zu\n", code.length, kinds[place].codes, kinds[place].width);
     return false;
@@ -75,8 +85,9 @@ static bool gather(const char *path, size_t place, struct content *content, stru
 
 static bool read_path(const char *path, size_t place, struct table *table) {
     struct content content;
-    if (!file_read(path, MOST_TABLE_BYTES, &content))
-        return false;
+    struct why why;
+    if (!file_read(path, MOST_TABLE_BYTES, &content, &why))
+        return complain("%s %s", path, why.words);
     bool done = content.length <= MOST_TABLE_BYTES ? gather(path, place, &content, table)
                                                    : complain("%s is too long for a table of codes", path);
     if (!done)

@@ -71,6 +71,17 @@ start_of() {
   forget_emulator
 }
 
+# write_starter TO: a script that does what `start` says
+write_starter() {
+  {
+    printf '#!/usr/bin/env bash\n'
+    declare -f forget_emulator
+    printf 'forget_emulator\nexec'
+    printf ' %q' "${start[@]}"
+    printf ' "$@"\n'
+  } >"$1" && chmod +x "$1" || stop "cannot write $1"
+}
+
 # program_of CRATE: builds the program that a crate is; `start` is the command that starts it
 program_of() {
   needs rt

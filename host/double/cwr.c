@@ -5,15 +5,22 @@
  *   CWR_DOUBLE_FINDS "1ff"       each record gets this set of findings, in hexadecimal
  *   CWR_DOUBLE_VERDICT "3"       and this verdict
  *   CWR_DOUBLE_MISCOUNTS "1"     the answer is this many records too large
+ *   CWR_DOUBLE_LENGTH "183"      a record of any type has this length
+ *   CWR_DOUBLE_SLEEPS "2"        each check takes so many seconds
  *   CWR_DOUBLE_SPOILS PATH       a byte is added to this file once the host has begun to read
+ *   CWR_DOUBLE_STOPS "15"        this signal comes while a file is written
+ *   CWR_DOUBLE_UNSYNCED "1"      no folder can be synced
  *
  * Otherwise a file passes with as many records as it has CR LF pairs, all accepted, and numbering copies it. */
 #include "cwr.h"
 
+#include <errno.h>
 #include <fcntl.h>
+#include <signal.h>
 #include <stdbool.h>
 #include <stdlib.h>
 #include <string.h>
+#include <sys/stat.h>
 #include <sys/uio.h>
 #include <unistd.h>
 
@@ -43,6 +50,7 @@ uint64_t cwr_check_within(uint64_t tolerance, const uint8_t *file, size_t file_l
                           const uint8_t *societies, size_t societies_length, const uint8_t *categories, size_t categories_length,
                           uint8_t *verdicts, size_t verdicts_length, uint8_t *findings, size_t findings_length) {
     uint64_t answered = answer(file, file_length), set = told("CWR_DOUBLE_FINDS", 16);
+    sleep((unsigned)told("CWR_DOUBLE_SLEEPS", 10));
     (void)tolerance, (void)languages, (void)languages_length, (void)societies, (void)societies_length, (void)categories;
     (void)categories_length;
     for (size_t i = 0; answered >> 32 == 0 && i < answered && i < verdicts_length && 8 * i + 8 <= findings_length; i++) {
@@ -81,12 +89,34 @@ uint32_t cwr_findings_lowest(uint64_t set) {
     return lowest;
 }
 
+uint32_t cwr_record_length(const uint8_t *record, size_t length) {
+    (void)record, (void)length;
+    return (uint32_t)told("CWR_DOUBLE_LENGTH", 10);
+}
+
+/* In the place of the C library's: a signal in the middle of a writing can only be tried where it is sure to come there, and a disk that
+ * fails only where there is none. */
+int fsync(int file) {
+    struct stat found;
+    if (getenv("CWR_DOUBLE_STOPS"))
+        raise((int)told("CWR_DOUBLE_STOPS", 10));
+    if (!getenv("CWR_DOUBLE_UNSYNCED") || fstat(file, &found) != 0 || !S_ISDIR(found.st_mode))
+        return 0;
+    errno = EIO;
+    return -1;
+}
+
+static bool is_open_as(int file, const char *path) {
+    struct stat open_one, named;
+    return fstat(file, &open_one) == 0 && stat(path, &named) == 0 && open_one.st_ino == named.st_ino;
+}
+
 /* In the place of the C library's: a file can only be caught changing if it changes between two looks at it. Once, or it would never end. */
 ssize_t read(int from, void *bytes, size_t length) {
     static bool done;
     const char *spoiled = getenv("CWR_DOUBLE_SPOILS");
     struct iovec part = {bytes, length};
-    if (spoiled && !done) {
+    if (spoiled && !done && is_open_as(from, spoiled)) {
         int to = open(spoiled, O_WRONLY | O_APPEND);
         done = true;
         if (to >= 0 && write(to, "x", 1) == 1)

@@ -4,5 +4,8 @@ int *__errno_location(void);
 #define errno (*__errno_location())
 #define ENOENT 2
 #define EINTR 4
+#define EIO 5 /* used by the double of host/test */
+#define EACCES 13
 #define EEXIST 17
+#define EINVAL 22
 #endif

@@ -1,5 +1,6 @@
 #ifndef LIBC_STDDEF_H
 #define LIBC_STDDEF_H
 typedef __SIZE_TYPE__ size_t;
+#define offsetof(type, field) __builtin_offsetof(type, field)
 #define NULL ((void *)0)
 #endif

@@ -7,6 +7,8 @@ ssize_t write(int to, const void *bytes, size_t length);
 int close(int file);
 int fsync(int file);
 int getpid(void);
+int isatty(int file);
 int link(const char *from, const char *to);
 int unlink(const char *path);
+unsigned sleep(unsigned seconds); /* used by the double of host/test */
 #endif

@@ -19,6 +19,7 @@ _Static_assert(sizeof(struct stat) == 144, "as the C library fills it");
 #define S_ISDIR(mode) (((mode) & 0170000) == 0040000)
 #define S_ISREG(mode) (((mode) & 0170000) == 0100000)
 
+int fchmod(int file, unsigned mode);
 int fstat(int file, struct stat *found);
 int stat(const char *path, struct stat *found);
 int lstat(const char *path, struct stat *found);

@@ -1,0 +1,101 @@
+#include "html_parts.h"
+
+#include <stddef.h>
+
+/* Colours say how bad it is, always beside words that say it too. */
+const char *const html_style[] = {
+    ":root { --ink: #1d2329; --quiet: #5b6670; --line: #d5dbe1; --paper: #ffffff; --ground: #f4f6f8; --ok: #1d7a46;\n"
+    "  --fr: #8a6100; --rr: #a8480b; --tr: #b3202c; --gr: #7a1f7a; --publishers: #2c6fbb; --writers: #6fae4e; }\n"
+    "* { box-sizing: border-box; }\n"
+    "body { margin: 0; background: var(--ground); color: var(--ink); font: 15px/1.45 system-ui, sans-serif; }\n"
+    "main { max-width: 70rem; margin: 0 auto; padding: 1rem; }\n"
+    "h1 { font-size: 1.4rem; margin: .2rem 0; } h2 { font-size: 1.1rem; margin: 1.6rem 0 .4rem; }\n"
+    "h3 { font-size: 1rem; margin: 0; overflow-wrap: anywhere; }\n"
+    "p { margin: .2rem 0; } .quiet { color: var(--quiet); font-size: .88rem; }\n"
+    "code { font: .92em/1.4 ui-monospace, monospace; background: #eef1f4; padding: 0 .25em; border-radius: 3px;\n"
+    "  white-space: pre-wrap; overflow-wrap: anywhere; }\n"
+    "table { border-collapse: collapse; width: 100%; background: var(--paper); }\n"
+    "th, td { text-align: left; vertical-align: top; padding: .35rem .6rem; border: 1px solid var(--line); }\n"
+    "th { background: #e9edf1; font-weight: 600; white-space: nowrap; } td { overflow-wrap: anywhere; }\n"
+    "td.count { text-align: right; font-variant-numeric: tabular-nums; white-space: nowrap; }\n",
+    ".mark { display: inline-block; padding: 0 .45em; border-radius: 3px; color: #fff; font-size: .82rem; font-weight: 600;\n"
+    "  white-space: nowrap; }\n"
+    ".s0 { background: var(--ok); } .s1, .FR { background: var(--fr); } .RR { background: var(--rr); }\n"
+    ".s2, .TR { background: var(--tr); } .s3, .s4, .GR { background: var(--gr); }\n"
+    "#tools { position: sticky; top: 0; z-index: 1; background: var(--ground); padding: .5rem 0; display: flex; flex-wrap: wrap;\n"
+    "  gap: .5rem; align-items: center; border-bottom: 1px solid var(--line); }\n"
+    "#tools input, #tools select { font: inherit; padding: .35rem .5rem; border: 1px solid #9aa5af; border-radius: 4px; background: #fff; }\n"
+    "#search { flex: 1 1 14rem; min-width: 0; }\n"
+    ".work { background: var(--paper); border: 1px solid var(--line); border-radius: 6px; padding: .7rem .9rem; margin: .6rem 0;\n"
+    "  content-visibility: auto; contain-intrinsic-size: auto 16rem; }\n"
+    ".work .head { display: flex; flex-wrap: wrap; gap: .3rem .8rem; align-items: baseline; }\n"
+    ".finding { border-top: 1px solid var(--line); margin-top: .55rem; padding-top: .45rem; }\n"
+    ".finding dl { margin: .25rem 0 0; display: grid; grid-template-columns: 15rem 1fr; gap: .1rem .8rem; }\n"
+    ".finding dt { color: var(--quiet); } .finding dd { margin: 0; overflow-wrap: anywhere; }\n"
+    ".right { color: var(--ok); } .number { white-space: nowrap; } .file { scroll-margin-top: 4rem; }\n",
+    ".shares { display: grid; grid-template-columns: 2.2rem minmax(6rem, 16rem) 1fr; gap: .15rem .6rem; align-items: center;\n"
+    "  margin-top: .45rem; font-size: .85rem; }\n"
+    ".bar { position: relative; display: flex; height: .8rem; background: #e4e8ec; border: 1px solid #b9c2ca; border-radius: 2px;\n"
+    "  overflow: hidden; }\n"
+    ".bar i { display: block; height: 100%; } .bar .p { background: var(--publishers); } .bar .w { background: var(--writers); }\n"
+    ".bar.over { border-color: var(--tr); box-shadow: 0 0 0 1px var(--tr); }\n"
+    ".key i { display: inline-block; width: .7rem; height: .7rem; margin: 0 .25rem 0 .7rem; border-radius: 2px; }\n"
+    ".key .p { background: var(--publishers); } .key .w { background: var(--writers); }\n"
+    "[hidden], [data-least='2'] [data-level='1'], [data-least='3'] [data-level='1'], [data-least='3'] [data-level='2'],\n"
+    "[data-least='4'] [data-level='1'], [data-least='4'] [data-level='2'], [data-least='4'] [data-level='3'] {\n"
+    "  display: none !important; }\n"
+    "@media (max-width: 40rem) {\n"
+    "  body { font-size: 14px; } main { padding: .6rem; }\n"
+    "  .files thead { display: none; } .files, .files tbody, .files tr, .files td { display: block; width: 100%; }\n"
+    "  .files tr { margin: .5rem 0; border: 1px solid var(--line); } .files td { border: 0; padding: .2rem .6rem; }\n"
+    "  .files td.count { display: inline-block; width: auto; } .files td:empty { display: none; }\n"
+    "  .files td.count::before { content: attr(data-of) ': '; color: var(--quiet); }\n"
+    "  .finding dl { grid-template-columns: 1fr; } .finding dd { margin-bottom: .25rem; }\n"
+    "  .shares { grid-template-columns: 2rem 1fr; } .shares .sum { grid-column: 2; }\n"
+    "}\n",
+    "@media print {\n"
+    "  body { background: #fff; font-size: 10pt; } main { max-width: none; padding: 0; } #tools { display: none; }\n"
+    "  .work { content-visibility: visible; } .work, tr { break-inside: avoid; } h2, h3 { break-after: avoid; }\n"
+    "  .mark { color: #000; background: none; border: 1px solid #000; }\n"
+    "  .bar, .bar i, .key i { -webkit-print-color-adjust: exact; print-color-adjust: exact; }\n"
+    "}\n",
+    NULL,
+};
+
+/* Each work has the highest level of its findings, and each finding its own: the style leaves out what is below the one that is chosen. The
+ * words of the works are gathered when the first is searched for, since a page can have thousands. Without the script all is shown. */
+const char *const html_script[] = {
+    "(function () {\n"
+    "  var search = document.getElementById('search'), level = document.getElementById('level');\n"
+    "  var shown = document.getElementById('shown'), none = document.getElementById('none');\n"
+    "  var works = Array.prototype.slice.call(document.querySelectorAll('.work'));\n"
+    "  var sections = Array.prototype.slice.call(document.querySelectorAll('.file'));\n"
+    "  var levels = works.map(function (work) { return Number(work.getAttribute('data-level')); }), words = null;\n"
+    "  function gather() {\n"
+    "    words = words || works.map(function (work) {\n"
+    "      return (work.getAttribute('data-file') + ' ' + work.textContent).toLowerCase();\n"
+    "    });\n"
+    "  }\n",
+    "  function show() {\n"
+    "    var wanted = search.value.toLowerCase().split(/\\s+/).filter(Boolean), least = Number(level.value), count = 0;\n"
+    "    if (wanted.length > 0)\n"
+    "      gather();\n"
+    "    document.body.setAttribute('data-least', least);\n"
+    "    works.forEach(function (work, at) {\n"
+    "      var fits = levels[at] >= least && wanted.every(function (word) { return words[at].indexOf(word) >= 0; });\n"
+    "      if (work.hidden === fits)\n"
+    "        work.hidden = !fits;\n"
+    "      count += fits ? 1 : 0;\n"
+    "    });\n"
+    "    sections.forEach(function (section) {\n"
+    "      section.hidden = section.querySelector('.work') && !section.querySelector('.work:not([hidden])');\n"
+    "    });\n"
+    "    shown.textContent = count + ' of ' + works.length + (works.length === 1 ? ' work' : ' works');\n"
+    "    none.hidden = count > 0 || works.length === 0;\n"
+    "  }\n"
+    "  search.addEventListener('input', show);\n"
+    "  level.addEventListener('change', show);\n"
+    "  show();\n"
+    "})();\n",
+    NULL,
+};

@@ -1,0 +1,51 @@
+#include "judged.h"
+
+enum { SHORT_FIELD = 14 };
+
+static const struct {
+    const char *words, *of_files;
+    enum status status;
+} outcomes[OUTCOMES] = {
+    [OUTCOME_ACCEPTED] = {"accepted", "accepted", STATUS_ACCEPTED},
+    [OUTCOME_DEFAULTED] = {"accepted with defaults", "accepted with defaults", STATUS_DEFAULTED},
+    [OUTCOME_LEFT_OUT] = {"accepted with records left out", "accepted with records left out", STATUS_DEFAULTED},
+    [OUTCOME_REJECTED] = {"works rejected", "with works rejected", STATUS_REJECTED},
+    [OUTCOME_REFUSED] = {"refused", "refused", STATUS_REFUSED},
+    [OUTCOME_FAILED] = {"not checked", "not checked", STATUS_FAILED},
+};
+
+const char *outcome_words(enum outcome outcome) {
+    return outcomes[outcome].words;
+}
+
+const char *outcome_of_files(enum outcome outcome) {
+    return outcomes[outcome].of_files;
+}
+
+enum status outcome_status(enum outcome outcome) {
+    return outcomes[outcome].status;
+}
+
+size_t found_column(const struct judged *judged, const struct found *found) {
+    return found->field_count > 0 ? judged->fields[found->fields].field->start : 1;
+}
+
+struct bytes work_number(const struct judged *judged, const struct work *work) {
+    return text_trimmed(text_field(judged->check.records[work->header], 82, 14));
+}
+
+struct bytes work_title(const struct judged *judged, const struct work *work) {
+    return text_trimmed(text_field(judged->check.records[work->header], 20, 60));
+}
+
+struct bytes field_shown(const struct found_field *field) {
+    struct bytes trimmed = text_trimmed(field->text);
+    return trimmed.length == 0 || field->field->size > SHORT_FIELD ? trimmed : field->text;
+}
+
+size_t tally_sum(const size_t tally[FINDINGS]) {
+    size_t sum = 0;
+    for (size_t i = 0; i < FINDINGS; i++)
+        sum += tally[i];
+    return sum;
+}

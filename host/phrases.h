@@ -1,0 +1,49 @@
+/* Phrases that several reports share. */
+#ifndef PHRASES_H
+#define PHRASES_H
+
+#include "judged.h"
+#include "night.h"
+#include "out.h"
+
+/* How a report shows the name of a file, and text of a file. */
+typedef void say_name_so(struct out *out, const char *name);
+typedef void say_text_so(struct out *out, struct bytes text);
+
+/* "cwrcheck 1.0.0, tolerance 0.06%, tables t: 4 languages, 5 societies, 4 categories" */
+void say_run(struct out *out, const struct run *run, say_name_so *say_folder);
+
+/* The outcome of a file in a few words that can be acted on; its name is said before. */
+void say_outcome(struct out *out, const struct judged *judged);
+
+/* "7 works: 3 accepted, 4 rejected" */
+void say_works(struct out *out, size_t works, const size_t by[VERDICTS]);
+
+/* The verdict on a work, and whether it falls for nothing in itself. */
+void say_verdict(struct out *out, const struct work *work);
+
+/* "2 works rejected with it, 1 of them for nothing in itself" */
+void say_fallen(struct out *out, const struct group *group);
+
+/* "5 files: 3 accepted, 2 refused" */
+void say_files(struct out *out, const struct night *night);
+
+/* Of a right whose shares do not fit, the sums that a finding speaks of: "PR: publishers 40.00%, writers 50.00%, together 90.00%" */
+void say_sums(struct out *out, const struct work *work, const struct found *found, size_t right);
+
+/* The same, and what is right: "; right: 0.00%, or 99.94% to 100.06%" */
+void say_right(struct out *out, const struct run *run, const struct work *work, const struct found *found, size_t right);
+
+/* What a finding comes from: a record, a chain. Nothing where there is nothing more to say. */
+void say_culprit(struct out *out, const struct judged *judged, const struct found *found, say_text_so *say_type);
+
+/* A field with what stands in it, and what is right. */
+void say_field(struct out *out, const struct found_field *field);
+
+/* What a finding says, with the default. */
+void say_sentence(struct out *out, const struct found *found);
+
+/* How much was not told, in one sentence. */
+void say_left_out(struct out *out, const struct judged *judged);
+
+#endif
