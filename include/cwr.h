@@ -1,4 +1,5 @@
-/* The library's calls from C: a CWR 2.2 file is checked, or numbered.
+/* The library's calls from C: a CWR 2.2 file is checked, searched for the first
+ * work to look at, or numbered.
  *
  * What is lent to a call
  * - Every slice is a pointer and a length in bytes. No pointer may be null, not
@@ -8,12 +9,13 @@
  * - Calls may run in several threads at once, as long as none writes what is
  *   lent to another: between calls nothing is kept, and the library has no
  *   data of its own that is written.
- * - A check takes up to 67 KB of stack, and numbering up to 3 KB (measured, by
- *   `bench/run stack`); 128 KB are enough for any call. No memory is allocated.
+ * - A check takes up to 67 KB of stack, as does a search for the first work, and
+ *   numbering up to 3 KB (measured, by `bench/run stack`); 128 KB are enough for
+ *   any call. No memory is allocated.
  * - A record is the text before a CR LF pair; records count from 0.
  *
- * What is answered by the first three calls
- * - Passed: the number of records, which is below 2^32.
+ * What is answered by the first four calls
+ * - Passed: the number of records, or of a transaction, which is below 2^32.
  * - Refused: the refusal's number times 2^32, plus its place. Then not a byte is
  *   written.
  *
@@ -56,6 +58,7 @@ extern "C" {
 #define CWR_CATEGORY_BYTES 3u          /* of an entry */
 #define CWR_FINDING_BYTES 8u           /* of a record's set of findings */
 #define CWR_NONE 64u                   /* the lowest finding of an empty set */
+#define CWR_NO_TRANSACTION 4294967295u /* there is none to look at */
 
 /* A record's verdict: what a society would do. */
 enum cwr_verdict {
@@ -95,6 +98,20 @@ uint64_t cwr_check_within(uint64_t tolerance,
                           uint8_t *verdicts, size_t verdicts_length,
                           uint8_t *findings, size_t findings_length);
 
+/* The first work to look at, without judging the rest: the first transaction,
+ * counted from 0 over the whole file, one of whose own records, header or
+ * detail, has a finding of level TR or GR; CWR_NO_TRANSACTION where no record of
+ * the file has one. A transaction that falls with its group alone, because of
+ * finding 0 on another header, is not named, and levels RR and FR name none.
+ *
+ * It is what can be read off the findings that cwr_check_within writes. Nothing
+ * is written here, so 11 does not occur; refused by 1 to 10 as the check is. */
+uint64_t cwr_first_rejected(uint64_t tolerance,
+                            const uint8_t *file, size_t file_length,
+                            const uint8_t *languages, size_t languages_length,
+                            const uint8_t *societies, size_t societies_length,
+                            const uint8_t *categories, size_t categories_length);
+
 /* Writes the file with its numbers put in afresh: those of prefixes, of groups
  * and of the trailers. What stood in these positions is not looked at, so it
  * refuses by 3, 4, 5, 6, 7, 10 and 11 alone; 11 where `out` is shorter than the
@@ -123,7 +140,7 @@ static inline uint32_t cwr_refusal(uint64_t answer) {
     return (uint32_t)(answer >> 32);
 }
 
-/* and the place of a refusal, or the number of records where passed. */
+/* and the place of a refusal, or the number that was answered where passed. */
 static inline uint32_t cwr_place(uint64_t answer) {
     return (uint32_t)(answer & 0xffffffffu);
 }

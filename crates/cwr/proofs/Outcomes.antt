@@ -10,17 +10,17 @@ use borrow.Author.Tests.{leb-true, leb-false, le-leb, lt-leb}
 use Rattle.format.specs.Bytes.{Bytes}
 use Rattle.format.specs.Table.{unknown}
 use Rattle.format.specs.Cwr22.{cwr22}
-use Rattle.format.specs.Structure.{Answer, refused, passed, mostBytes, judged, structure}
+use Rattle.format.specs.Structure.{Answer, refused, passed, mostBytes, mostRecords, judged, structure}
 use Rattle.format.specs.Numbering.{recordsIn}
 use Rattle.format.specs.Lent.{leftIn, splice}
 use Rattle.format.proofs.Tests.{by-cases}
 use Rattle.format.proofs.Answers.{file-read, answer-judged}
 use Rattle.rules.specs.Tables.{Tables}
 use Rattle.rules.specs.Verdicts.{findingBytes, fileFindings, fileVerdicts}
-use Rattle.rules.specs.Outcome.{Outcome, answer, content, check}
+use Rattle.rules.specs.Outcome.{Outcome, admission, answer, content, check}
 use Rattle.rules.specs.Claims.{InOrder}
 use Rattle.rules.proofs.Each.{records-counted, pairs-counted}
-use Rattle.rules.proofs.Outcomes.{passed-order}
+use Rattle.rules.proofs.Outcomes.{Orderly, admitted, passed-order}
 use Rattle.answers.specs.Numbers.{isPassed}
 use Rattle.structure.specs.Cursor.{Here}
 use Rattle.structure.proofs.Cursor.{here-start}
@@ -36,17 +36,17 @@ eighths r g =
     (λ e. rw (e, le-leb (8 * r) g (omega (arith, leb-true r (g / 8) e))) refl)
     (λ e. rw (e, lt-leb (8 * r) g (omega (arith, leb-false r (g / 8) e))) refl)
 
--- ---- a file that passes
+-- ---- a file that is let in
 
--- it is walked from its first byte, and the buffers have room
-pub record Fit (f : Bytes) (v g : ℕ) : Type 0 where
+-- it is walked from its first byte
+pub record Fit (f : Bytes) : Type 0 where
   pub short : length f ≤ mostBytes
   pub here : Here f 0 unknown (restAt f 0)
-  pub room : Room (length (restAt f 0)) v g
+  pub few : length (restAt f 0) ≤ mostRecords
 
-passes-fit : (f : Bytes) (v g k m n : ℕ) → structure cwr22 f ≡ passed k m n → n ≤ v → 8 * n ≤ g → Fit f v g
+passes-fit : (f : Bytes) (k m n : ℕ) → structure cwr22 f ≡ passed k m n → Fit f
 unfolding structure
-passes-fit f v g k m n e a b =
+passes-fit f k m n e =
     let d = file-read (judged cwr22) f k m n e in
     let c : length (restAt f 0) ≡ n = records-counted f k m n e in
     record {
@@ -54,8 +54,12 @@ passes-fit f v g k m n e a b =
       here =
           subst (Here f 0 unknown) (sym (ap recordsIn (d .is-lines)))
           (here-start f (d .rs) (d .is-lines) (answer-judged cwr22 (d .rs) k m n (d .is-judged) .in-place));
-      room = record { few = omega (arith, d .limits .1, pairs-counted f k m n e); inV = omega arith; inF = omega arith };
+      few = omega (arith, d .limits .1, pairs-counted f k m n e);
     }
+
+pub let-in : (tables : Tables) (t : ℕ) (f : Bytes) (a : Answer) → a ≡ admission tables t f → isPassed a ≡ true → Orderly tables t × Fit f
+let-in tables t f (refused n i) is e = absurd (false≢true e)
+let-in tables t f (passed k m n) is e = let (o, s) = admitted tables t f k m n (sym is) in (o, passes-fit f k m n s)
 
 -- ---- endings
 
@@ -92,15 +96,16 @@ module _ (tables : Tables) (t : ℕ) (f v g : Bytes) (a : Answer) (is : a ≡ an
         go (refused n i) q = absurd (false≢true q)
         go (passed k m n) q = rw (w .verdicts, w .findings, splice-front vs v, splice-front sets g) refl
 
-    order : (b : Answer) → isPassed b ≡ true → b ≡ answer tables t f (length v) (length g) → InOrder tables t f v g × Fit f (length v) (length g)
-    order (refused n i) q k = absurd (false≢true q)
-    order (passed i j n) q k =
-        let (o, s) = passed-order tables t f v g i j n (sym k) in
-        let c = pairs-counted f i j n s in
-        (o, passes-fit f (length v) (length g) i j n s (omega (arith, o .inV)) (omega (arith, o .inF)))
-
-    pub in-order : InOrder tables t f v g
-    in-order = order a e is .0
-
-    pub fit : Fit f (length v) (length g)
-    fit = order a e is .1
+    -- what passes was let in, and the buffers have room for it
+    pub fit : InOrder tables t f v g × Fit f × Room (length (restAt f 0)) (length v) (length g)
+    fit = go a e is
+      where
+        go : (b : Answer) → isPassed b ≡ true → b ≡ answer tables t f (length v) (length g)
+            → InOrder tables t f v g × Fit f × Room (length (restAt f 0)) (length v) (length g)
+        go (refused n i) q k = absurd (false≢true q)
+        go (passed i j n) q k =
+            let (o, s) = passed-order tables t f v g i j n (sym k) in
+            let h = passes-fit f i j n s in
+            let c : length (restAt f 0) ≡ n = records-counted f i j n s in
+            let p = pairs-counted f i j n s in
+            (o, h, record { few = h .few; inV = omega (arith, o .inV); inF = omega (arith, o .inF) })

@@ -10,10 +10,36 @@ use Rattle.format.specs.Structure.{Answer, refused, passed, structure}
 use Rattle.format.specs.Lent.{inRoom}
 use Rattle.rules.specs.Tables.{Tables, rightTable}
 use Rattle.rules.specs.Values.{largestTolerance}
-use Rattle.rules.specs.Outcome.{enough, answer}
+use Rattle.rules.specs.Outcome.{enough, admission, answer}
 use Rattle.answers.specs.declared.Told.{Told}
 use Rattle.answers.specs.Numbers.{toldOf}
 use Rattle.cwr.proofs.Outcomes.{eighths}
+
+-- ---- 1, 2 and the structure's, in their order
+
+module _ (tables : Tables) (t : ℕ) (f : Bytes) where
+  pub wrong-tolerance : leb t largestTolerance ≡ false → refused 1 0 ≡ admission tables t f
+  unfolding admission
+  wrong-tolerance e = rw e refl
+
+  module _ (e₁ : leb t largestTolerance ≡ true) where
+    pub wrong-languages : rightTable 2 (tables .languages) ≡ false → refused 2 0 ≡ admission tables t f
+    unfolding admission
+    wrong-languages e = rw (e₁, e) refl
+
+    module _ (e₂ : rightTable 2 (tables .languages) ≡ true) where
+      pub wrong-societies : rightTable 3 (tables .societies) ≡ false → refused 2 1 ≡ admission tables t f
+      unfolding admission
+      wrong-societies e = rw (e₁, e₂, e) refl
+
+      module _ (e₃ : rightTable 3 (tables .societies) ≡ true) where
+        pub wrong-categories : rightTable 3 (tables .categories) ≡ false → refused 2 2 ≡ admission tables t f
+        unfolding admission
+        wrong-categories e = rw (e₁, e₂, e₃, e) refl
+
+        pub by-structure : rightTable 3 (tables .categories) ≡ true → (a : Answer) → a ≡ structure cwr22 f → a ≡ admission tables t f
+        unfolding admission
+        by-structure e a s = s ∙ rw (e₁, e₂, e₃, e) refl
 
 -- ---- 11
 
@@ -39,29 +65,8 @@ module _ (a : Answer) (told : Told) (is : told ≡ toldOf a) (v g : ℕ) where
       go (refused n i) q = refl
       go (passed k m r) q = rw (sym (same-room r) ∙ not-false _ q) refl
 
--- ---- 1, 2 and the structure's, in their order
-
-module _ (tables : Tables) (t : ℕ) (f : Bytes) (v g : ℕ) where
-  pub wrong-tolerance : leb t largestTolerance ≡ false → refused 1 0 ≡ answer tables t f v g
-  unfolding answer
-  wrong-tolerance e = rw e refl
-
-  module _ (e₁ : leb t largestTolerance ≡ true) where
-    pub wrong-languages : rightTable 2 (tables .languages) ≡ false → refused 2 0 ≡ answer tables t f v g
-    unfolding answer
-    wrong-languages e = rw (e₁, e) refl
-
-    module _ (e₂ : rightTable 2 (tables .languages) ≡ true) where
-      pub wrong-societies : rightTable 3 (tables .societies) ≡ false → refused 2 1 ≡ answer tables t f v g
-      unfolding answer
-      wrong-societies e = rw (e₁, e₂, e) refl
-
-      module _ (e₃ : rightTable 3 (tables .societies) ≡ true) where
-        pub wrong-categories : rightTable 3 (tables .categories) ≡ false → refused 2 2 ≡ answer tables t f v g
-        unfolding answer
-        wrong-categories e = rw (e₁, e₂, e₃, e) refl
-
-        pub by-structure : rightTable 3 (tables .categories) ≡ true → (a b : Answer) → a ≡ structure cwr22 f → b ≡ inRoom (enough v g) a
-            → b ≡ answer tables t f v g
-        unfolding answer
-        by-structure e a b s q = q ∙ ap (inRoom (enough v g)) s ∙ rw (e₁, e₂, e₃, e) refl
+-- after all others
+pub answered : (tables : Tables) (t : ℕ) (f : Bytes) (v g : ℕ) (a b : Answer) → a ≡ admission tables t f → b ≡ inRoom (enough v g) a
+    → b ≡ answer tables t f v g
+unfolding answer
+answered tables t f v g a b let-in room = room ∙ ap (inRoom (enough v g)) let-in

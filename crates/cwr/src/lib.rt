@@ -1,49 +1,42 @@
 // The library: the calls that are open to others. Each takes whatever it is lent, and its contract states the entire outcome, by one of the
 // promises in specs/Promises.antt.
 use answers::Answer;
+use search::Sought;
 use values::Share;
 ghost use mathlib.Core.Path.{_≡_};
 ghost use mathlib.Core.Bool.{true};
 ghost use Prim.Native.Nat.{_≤_};
 ghost use lib.ListN.{length};
 ghost use Rattle.format.specs.Lent.{inRoom};
-ghost use Rattle.format.specs.Structure.{mostBytes};
+ghost use Rattle.format.specs.Structure.{mostBytes, mostRecords};
 ghost use Rattle.format.specs.Table.{unknown};
 ghost use Rattle.rules.specs.Tables.{languageSize, societySize, categorySize, rightTable, tablesOf};
 ghost use Rattle.rules.specs.Values.{largestTolerance};
-ghost use Rattle.rules.specs.Outcome.{enough, answer as Outcome·answer, shortTolerance};
+ghost use Rattle.rules.specs.Records.{any};
+ghost use Rattle.rules.specs.Outcome.{enough, admission as Outcome·admission, content, shortTolerance};
+ghost use Rattle.rules.specs.First.{isGrave, firstAt};
+ghost use Rattle.rules.specs.Claims.{ownSets};
 ghost use Rattle.answers.specs.Numbers.{answerOf};
 ghost use Rattle.structure.specs.Cursor.{Here};
 ghost use Rattle.transactions.specs.Walk.{restAt, Room};
 ghost use Rattle.files.specs.Levels.{WrittenFile};
-ghost use Rattle.cwr.specs.Promises.{Checked, Numbered, Counted, Lowest, RightLength};
+ghost use Rattle.search.specs.Levels.{inFile};
+ghost use Rattle.cwr.specs.First.{firstOf};
+ghost use Rattle.cwr.specs.Packed.{packedFirst};
+ghost use Rattle.cwr.specs.Promises.{Checked, FirstRejected, Numbered, Counted, Lowest, RightLength};
 
 // ---- refusals
 
-// 11, after all others.
-fn in_room(answer: Answer, verdicts: usize, findings: usize) -> Answer
-    ensures { λ r. ⌜ answerOf r ≡ inRoom (enough verdicts findings) (answerOf answer) ⌝ }
-{
-    let told = answer.told();
-    let records = told.records;
-    if told.passes & !((records <= verdicts as u64) & (records <= findings as u64 / 8)) {
-        return Answer::Short;
-    }
-    answer
-}
-
-// 1 to 11, for buffers of so many bytes.
-fn answer(
+// 1 to 10, before any buffer is looked at.
+fn admission(
     file: &[u8],
     languages: &[u8],
     societies: &[u8],
     categories: &[u8],
     tolerance: u64,
-    verdicts: usize,
-    findings: usize,
 ) -> Answer
-    ensures { λ r. ⌜ answerOf r ≡ Outcome·answer (tablesOf (now (languages .entry)) (now (societies .entry)) (now (categories .entry)))
-        tolerance (now (file .entry)) verdicts findings ⌝ }
+    ensures { λ r. ⌜ answerOf r ≡ Outcome·admission (tablesOf (now (languages .entry)) (now (societies .entry)) (now (categories .entry)))
+        tolerance (now (file .entry)) ⌝ }
 {
     if !Share::is_tolerance(tolerance) {
         return Answer::Tolerance;
@@ -57,7 +50,19 @@ fn answer(
     if !tables::right(categories, tables::CATEGORY) {
         return Answer::Table(2);
     }
-    in_room(structure::check(file), verdicts, findings)
+    structure::check(file)
+}
+
+// 11, after all others.
+fn in_room(answer: Answer, verdicts: usize, findings: usize) -> Answer
+    ensures { λ r. ⌜ answerOf r ≡ inRoom (enough verdicts findings) (answerOf answer) ⌝ }
+{
+    let told = answer.told();
+    let records = told.records;
+    if told.passes & !((records <= verdicts as u64) & (records <= findings as u64 / 8)) {
+        return Answer::Short;
+    }
+    answer
 }
 
 // ---- the records of a file that passed
@@ -84,6 +89,26 @@ fn judge(
     files::judge_file(file, tolerance, &slots, verdicts, findings);
 }
 
+// The same for a search, which writes nothing.
+fn seek(
+    file: &[u8],
+    languages: &[u8],
+    societies: &[u8],
+    categories: &[u8],
+    tolerance: u64,
+) -> Sought
+    requires { ⌜ (length (now file) ≤ mostBytes) × Here (now file) 0 unknown (restAt (now file) 0)
+        × (length (restAt (now file) 0) ≤ mostRecords) ⌝ }
+    requires { ⌜ (tolerance ≤ largestTolerance) × (rightTable languageSize (now languages) ≡ true)
+        × (rightTable societySize (now societies) ≡ true) × (rightTable categorySize (now categories) ≡ true) ⌝ }
+    ensures { λ r. ⌜ inFile r ≡ firstAt (any isGrave)
+        (ownSets (tablesOf (now (languages .entry)) (now (societies .entry)) (now (categories .entry))) tolerance (content (now (file .entry)))) ⌝ }
+{
+    let mut slots = [0u32; tables::SLOTS];
+    tables::index(languages, societies, categories, &mut slots);
+    search::search(file, tolerance, &slots)
+}
+
 // ---- the calls
 
 // Checks a file. Refused, it has written nothing; passed, each record has its verdict byte and its eight bytes of findings.
@@ -99,15 +124,8 @@ pub fn check(
     ensures { λ r. ⌜ Checked (tablesOf (now (languages .entry)) (now (societies .entry)) (now (categories .entry))) tolerance
         (now (file .entry)) (now (verdicts .entry)) (now (findings .entry)) r (now (verdicts .exit)) (now (findings .exit)) ⌝ }
 {
-    let r = answer(
-        file,
-        languages,
-        societies,
-        categories,
-        tolerance,
-        verdicts.len(),
-        findings.len(),
-    );
+    let admitted = admission(file, languages, societies, categories, tolerance);
+    let r = in_room(admitted, verdicts.len(), findings.len());
     if !r.passes() {
         return r;
     }
@@ -144,6 +162,51 @@ pub fn check_short(
         verdicts,
         findings,
     )
+}
+
+// What is answered of the first work to look at; specs/First.antt gives each case its number.
+pub enum First {
+    // As the check would be.
+    Refused(Answer),
+    // No record of the file has a TR or GR finding.
+    Nothing,
+    // The transaction's number, counted from 0 over the whole file.
+    At(usize),
+}
+
+impl First {
+    // In one number.
+    pub fn packed(self) -> u64
+        ensures { λ r. ⌜ r ≡ packedFirst (firstOf self) ⌝ }
+    {
+        match self {
+            First::Refused(answer) => answer.packed(),
+            First::Nothing => 4294967295,
+            First::At(transaction) => transaction as u64,
+        }
+    }
+}
+
+// The first transaction with a TR or GR finding of its own. Nothing is written, and no later transaction is judged.
+pub fn first_rejected(
+    file: &[u8],
+    languages: &[u8],
+    societies: &[u8],
+    categories: &[u8],
+    tolerance: u64,
+) -> First
+    ensures { λ r. ⌜ FirstRejected (tablesOf (now (languages .entry)) (now (societies .entry)) (now (categories .entry))) tolerance
+        (now (file .entry)) r ⌝ }
+{
+    let admitted = admission(file, languages, societies, categories, tolerance);
+    if !admitted.passes() {
+        return First::Refused(admitted);
+    }
+    let sought = seek(file, languages, societies, categories, tolerance);
+    match sought {
+        Sought::Nothing => First::Nothing,
+        Sought::At(transaction) => First::At(transaction),
+    }
 }
 
 // Numbers a file into out.

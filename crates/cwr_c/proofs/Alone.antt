@@ -1,22 +1,30 @@
 -- One outcome alone fits the promise of each call from C, and the number says what was answered. Assumes nothing.
-use Prim.Native.Nat.{ℕ}
-use mathlib.Core.Path.{_≡_, sym, _∙_, subst}
+use Prim.Native.Nat.{ℕ, _^_, _≤_, _<_}
+use native.Mathlib.Omega.{arith}
+use mathlib.Core.Path.{_≡_, refl, sym, ap, _∙_, subst}
 use lib.ListN.{length}
-use Rattle.format.specs.Structure.{Answer, refused, passed}
+use Rattle.format.specs.Bytes.{Bytes}
+use Rattle.format.specs.Structure.{Answer, refused, passed, mostRecords}
 use Rattle.format.specs.Claims.{Near}
 use Rattle.rules.specs.Outcome.{check}
+use Rattle.rules.specs.Tables.{Tables}
+use Rattle.rules.specs.First.{First, refusedAs, nothing, at, first}
 use Rattle.rules.proofs.Outcomes.{checks}
+use Rattle.rules.proofs.First.{firsts}
 use Rattle.answers.specs.Numbers.{exact}
 use Rattle.answers.specs.Claims.{Named, Says}
 use Rattle.answers.proofs.Alone.{exact-says, exact-alone}
 use Rattle.numbering.specs.Outcome.{numberAnswer}
 use Rattle.numbering.proofs.Claims.{near}
+use Rattle.cwr.specs.First.{exactFirst}
+use Rattle.cwr.proofs.Firsts.{refused-near}
 use Rattle.cwr_c.specs.Promises.{OneFits}
 use Rattle.cwr_c.specs.Claims.{OfCheck, ReadOff}
 
 pub one-fits : OneFits
 one-fits = record {
   check = λ tables t f v g r s v₁ g₁ v₂ g₂ p q. (p .0 ∙ sym (q .0), p .1 ∙ sym (q .1), p .2 ∙ sym (q .2));
+  first = λ tables t f r s p q. p ∙ sym q;
   number = λ f out r s a b p q. (p .0 ∙ sym (q .0), p .1 ∙ sym (q .1));
 }
 
@@ -30,9 +38,42 @@ of-check-named : (a : Answer) → OfCheck a → Named a
 of-check-named (refused n i) (tables, t, f, v, g, e) = checks .numbers tables t f v g n i e .0
 of-check-named (passed k m n) o = tt
 
+-- ---- the first work to look at
+
+-- what is known of an outcome, so that its number has one reading
+abbrev Known : First → Type 0
+Known (refusedAs a) = (n : ℕ) × (i : ℕ) × (a ≡ refused n i) × (1 ≤ n) × Near (refused n i)
+Known nothing = Unit {0}
+Known (at k) = k < mostRecords
+
+known : (tables : Tables) (t : ℕ) (f : Bytes) (x : First) → first tables t f ≡ x → Known x
+known tables t f (refusedAs a) e =
+    let (n, i, is, low, high) = firsts .never-11 tables t f a e in
+    (n, i, is, low, subst Near is (refused-near tables t f a e))
+known tables t f nothing e = tt
+known tables t f (at k) e = firsts .near tables t f k e
+
+-- a refusal's number is 2^32 or more
+high : {a : Answer} → Known (refusedAs a) → 2 ^ 32 ≤ exact a
+high (n, i, is, low, near) = rw is (omega (arith, low))
+
+one-number : (x y : First) → Known x → Known y → exactFirst x ≡ exactFirst y → x ≡ y
+one-number (refusedAs a) (refusedAs b) (n, i, p, low, near) (k, j, q, low', near') e =
+    let (same-n, same-i) = exact-alone (refused n i) (refused k j) near near' low low' (sym (ap exact p) ∙ e ∙ ap exact q) in
+    ap refusedAs (p ∙ rw (same-n, same-i) refl ∙ sym q)
+one-number (refusedAs a) nothing p q e = absurd (omega (arith, e, high p))
+one-number (refusedAs a) (at k) p q e = absurd (omega (arith, e, high p, q))
+one-number nothing (refusedAs b) p q e = absurd (omega (arith, e, high q))
+one-number nothing nothing p q e = refl
+one-number nothing (at k) p q e = absurd (omega (arith, e, q))
+one-number (at k) (refusedAs b) p q e = absurd (omega (arith, e, high q, p))
+one-number (at k) nothing p q e = absurd (omega (arith, e, p))
+one-number (at k) (at j) p q e = ap at e
+
 pub read-off : ReadOff
 read-off = record {
   check = λ tables t f v g r v' g' p. says r (check tables t f v g .answer) (p .0) (checks .near tables t f v g);
   number = λ f out r out' p. says r (numberAnswer f (length out)) (p .0) (near f (length out));
+  first-alone = λ tables tables' t t' f f'. one-number _ _ (known tables t f _ refl) (known tables' t' f' _ refl);
   alike = λ a b p q. exact-alone a b (of-check-near a p) (of-check-near b q) (of-check-named a p) (of-check-named b q);
 }

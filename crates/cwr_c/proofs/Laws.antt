@@ -11,8 +11,12 @@ use Rattle.answers.specs.Numbers.{answerOf}
 use Rattle.answers.specs.Packed.{packedOf}
 use Rattle.answers.proofs.Exact.{exact-so}
 use Rattle.numbering.proofs.Claims.{near}
-use Rattle.cwr.specs.Promises.{Checked, Numbered}
-use Rattle.cwr_c.specs.Promises.{CheckedC, NumberedC}
+use Rattle.cwr.specs.declared.First.{First}
+use Rattle.cwr.specs.First.{firstOf}
+use Rattle.cwr.specs.Packed.{packedFirst}
+use Rattle.cwr.specs.Promises.{Checked, FirstRejected, Numbered}
+use Rattle.cwr.proofs.Firsts.{first-exact}
+use Rattle.cwr_c.specs.Promises.{CheckedC, FirstRejectedC, NumberedC}
 
 module _ (a : Answer) {r : ℕ} (e : r ≡ packedOf (answerOf a)) where
   pub checked : (tables : Tables) (t : ℕ) (f v g v' g' : Bytes) → Checked tables t f v g a v' g' → CheckedC tables t f v g r v' g'
@@ -24,3 +28,7 @@ module _ (a : Answer) {r : ℕ} (e : r ≡ packedOf (answerOf a)) where
 
   pub numbered : (f out out' : Bytes) → Numbered f out a out' → NumberedC f out r out'
   numbered f out out' is = (exact-so e (is .0) (near f (length out)), is .1)
+
+pub first-rejected : (x : First) {r : ℕ} → r ≡ packedFirst (firstOf x) → (tables : Tables) (t : ℕ) (f : Bytes) → FirstRejected tables t f x
+    → FirstRejectedC tables t f r
+first-rejected x e tables t f is = first-exact tables t f e is

@@ -6,9 +6,11 @@ use Rattle.format.specs.Bytes.{Bytes}
 use Rattle.format.specs.Structure.{Answer}
 use Rattle.rules.specs.Tables.{Tables}
 use Rattle.rules.specs.Outcome.{check}
+use Rattle.rules.specs.First.{first}
 use Rattle.answers.specs.Numbers.{exact}
 use Rattle.answers.specs.Claims.{Alike, Says}
 use Rattle.numbering.specs.Outcome.{numberAnswer}
+use Rattle.cwr.specs.First.{exactFirst}
 use Rattle.cwr_c.specs.Promises.{CheckedC, NumberedC}
 
 -- an answer of some check
@@ -20,5 +22,8 @@ pub record ReadOff : Type 0 where
   pub check : (tables : Tables) (t : ℕ) (f v g : Bytes) (r : ℕ) (v' g' : Bytes) → CheckedC tables t f v g r v' g'
       → Says r (check tables t f v g .answer)
   pub number : (f out : Bytes) (r : ℕ) (out' : Bytes) → NumberedC f out r out' → Says r (numberAnswer f (length out))
-  -- so that two checks with the same number were refused alike, or passed with as many records
+  -- no two outcomes of the search for the first work have the same number,
+  pub first-alone : (tables tables' : Tables) (t t' : ℕ) (f f' : Bytes) → exactFirst (first tables t f) ≡ exactFirst (first tables' t' f')
+      → first tables t f ≡ first tables' t' f'
+  -- and two checks with the same number were refused alike, or passed with as many records
   pub alike : (a b : Answer) → OfCheck a → OfCheck b → exact a ≡ exact b → Alike a b

@@ -1,9 +1,9 @@
-// The library as C calls it: bytes in and out, and one number for an answer: a refusal's number times 2 to the 32 plus its place, or the
-// number of records. include/cwr.h declares these calls.
+// The library as C calls it: bytes in and out, and one number for an answer: a refusal's number times 2 to the 32 plus its place, or what
+// was asked for, the number of records or of a transaction. include/cwr.h declares these calls.
 ghost use Rattle.rules.specs.Outcome.{shortTolerance};
 ghost use Rattle.rules.specs.Tables.{tablesOf};
 ghost use Rattle.cwr.specs.Promises.{Counted, Lowest, RightLength};
-ghost use Rattle.cwr_c.specs.Promises.{CheckedC, NumberedC};
+ghost use Rattle.cwr_c.specs.Promises.{CheckedC, FirstRejectedC, NumberedC};
 
 // The short form of the check.
 #[no_mangle]
@@ -46,6 +46,22 @@ pub extern "C" fn cwr_check_within(
         findings,
     );
     answer.packed()
+}
+
+// The first transaction with a TR or GR finding of its own, by its number; 4294967295 where there is none.
+#[no_mangle]
+pub extern "C" fn cwr_first_rejected(
+    tolerance: u64,
+    file: &[u8],
+    languages: &[u8],
+    societies: &[u8],
+    categories: &[u8],
+) -> u64
+    ensures { λ r. ⌜ FirstRejectedC (tablesOf (now (languages .entry)) (now (societies .entry)) (now (categories .entry))) tolerance
+        (now (file .entry)) r ⌝ }
+{
+    let first = cwr::first_rejected(file, languages, societies, categories, tolerance);
+    first.packed()
 }
 
 // Numbering.

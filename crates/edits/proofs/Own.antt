@@ -16,7 +16,8 @@ use Rattle.rules.specs.Other.{is24, is43, is44, is45, is46}
 use Rattle.rules.specs.Findings.{fieldFindings, ownFindings, setOf, worst}
 use Rattle.format.proofs.Tests.{by-cases}
 use Rattle.findings.specs.Many.{many}
-use Rattle.findings.proofs.Laws.{set-padded, worst-padded}
+use Rattle.rules.proofs.Bits.{worst-padded}
+use Rattle.findings.proofs.Laws.{set-padded}
 use Rattle.edits.specs.declared.Found.{Found}
 use Rattle.edits.specs.Judged.{Judged}
 use Rattle.edits.proofs.Types.{not-other, not-third, or-right}

@@ -15,6 +15,7 @@ use Rattle.format.proofs.Tree.{is→eq}
 use Rattle.format.proofs.Walks.{groups-skip}
 use Rattle.rules.specs.Tables.{Tables}
 use Rattle.rules.specs.Verdicts.{fileFindings, fileVerdicts}
+use Rattle.rules.specs.Outcome.{content}
 use Rattle.structure.specs.Cursor.{Here}
 use Rattle.transactions.specs.Walk.{restAt, tailOf, Position, Filled}
 use Rattle.transactions.proofs.Levels.{first-left}
@@ -33,8 +34,9 @@ module _ {f : Bytes} (h : Here f 0 unknown (restAt f 0)) where
   pub groups-here : Position f (length (restAt f 0)) 169 1 hdr (restAt f 169)
   groups-here = position-after file-header outset refl is-hdr 169 refl
 
-  same-groups : groupsIn cwr22 (restAt f 0) ≡ groupsIn cwr22 (restAt f 169)
-  same-groups =
+  pub all-groups : content f .groups ≡ groupsIn cwr22 (restAt f 169)
+  unfolding tree
+  all-groups =
       ap (groupsIn cwr22) (first-left h refl)
       ∙ groups-skip cwr22 (firstOf (restAt f 0)) (tailOf (restAt f 0)) (rw is-hdr refl)
       ∙ ap (groupsIn cwr22) (sym (left-after file-header outset refl is-hdr 169 refl))
@@ -42,5 +44,5 @@ module _ {f : Bytes} (h : Here f 0 unknown (restAt f 0)) where
   pub written-file : (tables : Tables) (t n : ℕ) {v₀ g₀ v₁ g₁ v₂ g₂ v₃ g₃ : Bytes} → Filled 0 1 (0 ∷ []) ([] ∷ []) v₀ g₀ v₁ g₁
       → FilledGroups tables t 1 n (groupsIn cwr22 (restAt f 169)) v₁ g₁ v₂ g₂ → Filled n (n + 1) (0 ∷ []) ([] ∷ []) v₂ g₂ v₃ g₃
       → WrittenFile tables t f v₀ g₀ v₃ g₃
-  unfolding fileVerdicts fileFindings tree
-  written-file tables t n opened groups closed = rw same-groups (filled-then (filled-then opened groups) closed .written)
+  unfolding fileVerdicts fileFindings
+  written-file tables t n opened groups closed = rw all-groups (filled-then (filled-then opened groups) closed .written)

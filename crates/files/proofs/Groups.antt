@@ -56,21 +56,21 @@ module _ {f : Bytes} {m at n : ℕ} (before : Position f m at n grt (restAt f at
   opening-lent = lent group-header (before .here) refl is-grh
 
   -- its transactions are gone over
-  module _ (e : ℕ) (q : e ≡ at + 28 + 2) {named : Bytes} {p : Passed}
-      (past : PastTransactions named f (n + 1 + length (restAt f e)) (restAt f e) p) where
-    pub past-inside : PastTransactions named f m (tailOf (restAt f at)) p
-    past-inside = known-after group-header before refl is-grh e q (λ k l. PastTransactions named f k l p) past
+  pub past-inside : (e : ℕ) → e ≡ at + 28 + 2 → {named : Bytes} {p : Passed}
+      → PastTransactions named f (n + 1 + length (restAt f e)) (restAt f e) p → PastTransactions named f m (tailOf (restAt f at)) p
+  past-inside e q {named} {p} past = known-after group-header before refl is-grh e q (λ k l. PastTransactions named f k l p) past
 
+  module _ {named : Bytes} {p : Passed} (inside : PastTransactions named f m (tailOf (restAt f at)) p) where
     pub closing-ends : p .at + 37 + 2 ≤ length f
-    closing-ends = ends group-trailer (past-inside .position .here) refl (past-inside .closed)
+    closing-ends = ends group-trailer (inside .position .here) refl (inside .closed)
 
     pub past-group : PastGroup f m (restAt f at) (record { at = p .at + 37 + 2; index = p .index + 1 })
     past-group = record {
-      position = step (past-inside .position) refl (next group-trailer (past-inside .position .here) refl (past-inside .closed) _ refl);
+      position = step (inside .position) refl (next group-trailer (inside .position .here) refl (inside .closed) _ refl);
       groups =
           ap (groupsIn cwr22) (first-left (before .here) refl)
           ∙ group-first cwr22 (firstOf rs) (tailOf rs) (rw is-grh refl)
-          ∙ ap (λ l. groupOf rs ∷ l) (closing-skipped (after (isInside cwr22) (tailOf rs)) (past-inside .closed));
+          ∙ ap (λ l. groupOf rs ∷ l) (closing-skipped (after (isInside cwr22) (tailOf rs)) (inside .closed));
     }
 
 -- its entries, once all its records are written and raised
@@ -130,6 +130,13 @@ module _ {f : Bytes} {m start : ℕ} {claim : List Group → Type 0} {n : Next} 
       absurd (false≢true (sym e ∙ ap (λ b. eqb b 71) (letter opening-letter (position .here) refl is-grh))))
       (λ q. q)
 
+  -- a group that stands here is the first of those that are left
+  pub split-here : cls cwr22 (firstOf (restAt f (n .at))) ≡ grh → groupsIn cwr22 (restAt f start)
+      ≡ inv .0 ++ groupOf (restAt f (n .at)) ∷ groupsIn cwr22 (after (isInside cwr22) (tailOf (restAt f (n .at))))
+  split-here is-grh =
+      let first-of = ap (groupsIn cwr22) left ∙ group-first cwr22 (firstOf here-on) (tailOf here-on) (rw is-grh refl) in
+      inv .1 .split ∙ ap (λ l. inv .0 ++ l) first-of
+
   -- one group more
   module _ (o : Next) (past : PastGroup f (n .index + length (restAt f (n .at))) (restAt f (n .at)) o) where
     after-it : Position f m (o .at) (o .index) grt (afterGroup here-on)
@@ -156,7 +163,10 @@ module _ {f : Bytes} {m start : ℕ} {claim : List Group → Type 0} {n : Next} 
     pub past-all : PastGroups f m n
     past-all = record { position = position; trailer = ap length left ∙ ap (λ l. suc (length l)) alone }
 
-    pub all-done : claim (groupsIn cwr22 (restAt f start))
-    all-done =
+    pub all-gone : groupsIn cwr22 (restAt f start) ≡ inv .0
+    all-gone =
         let none = ap (groupsIn cwr22) left ∙ groups-skip cwr22 (firstOf here-on) (tailOf here-on) (no-group e) ∙ ap (groupsIn cwr22) alone in
-        subst claim (sym (going-all (groupsIn cwr22) f m start grt (inv .1) none)) done
+        going-all (groupsIn cwr22) f m start grt (inv .1) none
+
+    pub all-done : claim (groupsIn cwr22 (restAt f start))
+    all-done = subst claim (sym all-gone) done

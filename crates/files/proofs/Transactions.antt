@@ -92,6 +92,18 @@ module _ {named f : Bytes} {m start : ℕ} {claim : List Transaction → Type 0}
   pub header-here : p .class ≡ 2 → cls cwr22 (firstOf (restAt f (p .at))) ≡ head
   header-here e = sym (among .class) ∙ ap classAt e
 
+  -- it is the first of those that are left
+  module _ (e : p .class ≡ 2) where
+    is-head : isHead cwr22 (firstOf rs) ≡ true
+    is-head = rw (header-here e) refl
+
+    first-of : transactionsOf rs ≡ frontOf rs ∷ transactionsOf (after (isDetail cwr22) (tailOf rs))
+    first-of = ap transactionsOf left ∙ transaction-first cwr22 (firstOf rs) (tailOf rs) is-head
+
+    pub split-here : transactionsOf (restAt f start)
+        ≡ xs ++ frontOf (restAt f (p .at)) ∷ transactionsOf (after (isDetail cwr22) (tailOf (restAt f (p .at))))
+    split-here = among .going .split ∙ ap (λ l. xs ++ l) first-of
+
   -- one transaction more
   module _ (q : Passed) (e : p .class ≡ 2) (past : PastTransaction named f (p .index + length (restAt f (p .at))) (restAt f (p .at)) q) where
     after-it : Position f m (q .at) (q .index) head (after (isDetail cwr22) (tailOf rs))
@@ -100,21 +112,16 @@ module _ {named f : Bytes} {m start : ℕ} {claim : List Transaction → Type 0}
     next : restAt f (q .at) ≡ after (isDetail cwr22) (tailOf rs)
     next = after-it .here .left
 
-    is-head : isHead cwr22 (firstOf rs) ≡ true
-    is-head = rw (header-here e) refl
-
     pub one-more : {claim' : List Transaction → Type 0} → claim' (xs ++ frontOf (restAt f (p .at)) ∷ [])
         → Inv named f m start claim' (record { at = q .at; index = q .index; class = q .class; stray = p .stray || q .stray })
     one-more done' = (
       xs ++ frontOf rs ∷ [],
       record {
-        going =
-            going-on transactionsOf f m start head (among .going) (frontOf rs)
-            (ap transactionsOf left ∙ transaction-first cwr22 (firstOf rs) (tailOf rs) is-head) after-it done';
+        going = going-on transactionsOf f m start head (among .going) (frontOf rs) (first-of e) after-it done';
         rest =
             among .rest
             ∙ ap (after (isInside cwr22)) left
-            ∙ rw is-head (inside-after cwr22 (tailOf rs))
+            ∙ rw (is-head e) (inside-after cwr22 (tailOf rs))
             ∙ ap (after (isInside cwr22)) (sym next);
         class = past .class ∙ ap (λ l. cls cwr22 (firstOf l)) (sym next);
         edge = ap (λ l. isDetail cwr22 (firstOf l)) next ∙ edge-of (tailOf rs);
@@ -143,8 +150,8 @@ module _ {named f : Bytes} {m start : ℕ} {claim : List Transaction → Type 0}
     after-all : after (isInside cwr22) (restAt f start) ≡ rs
     after-all = among .rest ∙ ap (after (isInside cwr22)) left ∙ rw outside (sym left)
 
-    all-transactions : transactionsOf (restAt f start) ≡ xs
-    all-transactions =
+    pub all-gone : transactionsOf (restAt f start) ≡ xs
+    all-gone =
         going-all transactionsOf f m start head (among .going)
         (ap transactionsOf left ∙ transactions-none cwr22 (firstOf rs) (tailOf rs) outside)
 
@@ -154,8 +161,8 @@ module _ {named f : Bytes} {m start : ℕ} {claim : List Transaction → Type 0}
       closed =
           ap (λ l. cls cwr22 (firstOf l)) after-all
           ∙ grt-after _ (follows head refl rs (position .here .placed)) no-head (among .edge);
-      stray = among .stray ∙ ap (isStrayAmong named) (sym all-transactions);
+      stray = among .stray ∙ ap (isStrayAmong named) (sym all-gone);
     }
 
     pub all-done : claim (transactionsOf (restAt f start))
-    all-done = subst claim (sym all-transactions) done
+    all-done = subst claim (sym all-gone) done

@@ -128,7 +128,7 @@ fn judge_group(
 }
 
 // Whether a group begins here, where nothing else but TRL can stand.
-fn is_group(file: &[u8], at: usize) -> bool
+pub fn is_group(file: &[u8], at: usize) -> bool
     requires { ⌜ at < length (now file) ⌝ }
     ensures { λ r. ⌜ r ≡ eqb (getD (now (file .entry)) at 0) 71 ⌝ }
 {

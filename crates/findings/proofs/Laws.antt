@@ -14,6 +14,7 @@ use borrow.Author.Tests.{leb-true, leb-false, le-leb, lt-leb}
 use Rattle.format.proofs.Tests.{by-cases}
 use Rattle.rules.specs.Findings.{setOf, places, countOf, lowestOf, verdictOf, level, larger, worstFrom, worst}
 use Rattle.rules.proofs.Verdicts.{larger-zero}
+use Rattle.rules.proofs.Bits.{places-set}
 use Rattle.findings.specs.Many.{many}
 
 -- ---- counted and searched, by the lowest bit and the others
@@ -42,28 +43,6 @@ zeros-lowest (suc k) n = rw (zeros-lowest k (n / 2)) (under-bit (n % 2) (lowestO
 
 -- ---- the set of a list, read back
 
-odd : (b : Bool) (s : ℕ) → eqb ((cond b 1 0 + 2 * s) % 2) 1 ≡ b
-odd true s = let e : (1 + 2 * s) % 2 ≡ 1 = omega arith in rw e
-odd false s = let e : (0 + 2 * s) % 2 ≡ 0 = omega arith in rw e
-
-half : (b : Bool) (s : ℕ) → (cond b 1 0 + 2 * s) / 2 ≡ s
-half true s = omega arith
-half false s = omega arith
-
-none : (k : ℕ) → places k 0 ≡ replicate k false
-unfolding places
-none zero = refl
-none (suc k) = ap (λ (bs : List Bool). false ∷ bs) (none k)
-
--- the list, and the places beyond it are empty
-pub places-set : (k : ℕ) (bs : List Bool) → length bs ≤ k → places k (setOf bs) ≡ bs ++ replicate (k - length bs) false
-unfolding places setOf
-places-set k [] h = none k ∙ ap (λ (n : ℕ). replicate n false) (let e : k ≡ k - 0 = omega arith in e)
-places-set zero (b ∷ bs) h = absurd (not-suc-le-zero h)
-places-set (suc k) (b ∷ bs) h =
-    rw (odd b (setOf bs), half b (setOf bs), places-set k bs (le-of-suc-le-suc h))
-    (ap (λ (n : ℕ). b ∷ (bs ++ replicate n false)) (let e : k - length bs ≡ suc k - suc (length bs) = omega arith in e))
-
 count-none : (k : ℕ) → countOf (replicate k false) ≡ 0
 unfolding countOf
 count-none zero = refl
@@ -88,7 +67,7 @@ module _ (bs : List Bool) (fits : length bs ≤ 64) where
   pub lowest-of-set : 0 < setOf bs → lowestOf (places 64 (setOf bs)) ≡ lowestOf bs
   lowest-of-set h = ap lowestOf (places-set 64 bs fits) ∙ lowest-padded bs (64 - length bs) h
 
--- ---- findings after a list that do not hold change neither its set nor its largest verdict
+-- ---- findings after a list that do not hold leave its set as it is
 
 set-none : (k : ℕ) → setOf (replicate k false) ≡ 0
 unfolding setOf
@@ -99,18 +78,6 @@ pub set-padded : (bs : List Bool) (k : ℕ) → setOf (bs ++ replicate k false) 
 unfolding setOf
 set-padded [] k = set-none k
 set-padded (b ∷ bs) k = ap (λ (s : ℕ). cond b 1 0 + 2 * s) (set-padded bs k)
-
-worst-none : (n k : ℕ) → worstFrom n (replicate k false) ≡ 0
-worst-none n zero = refl
-worst-none n (suc k) = ap (larger 0) (worst-none (suc n) k)
-
-worst-from-padded : (n : ℕ) (bs : List Bool) (k : ℕ) → worstFrom n (bs ++ replicate k false) ≡ worstFrom n bs
-worst-from-padded n [] k = worst-none n k
-worst-from-padded n (b ∷ bs) k = ap (larger (cond b (verdictOf (level n)) 0)) (worst-from-padded (suc n) bs k)
-
-pub worst-padded : (bs : List Bool) (k : ℕ) → worst (bs ++ replicate k false) ≡ worst bs
-unfolding worst
-worst-padded bs k = worst-from-padded 0 bs k
 
 -- ---- a row of findings packed from its end, and moved up by the places before it
 

@@ -65,7 +65,7 @@ at-most : (b : Bool) (v w x : ℕ) → v ≤ w → x ≤ w → cond b v x ≤ w
 at-most true v w x h k = h
 at-most false v w x h k = k
 
-later-worst : (n : ℕ) (bs : List Bool) → worstFrom (suc n) bs ≤ 3
+pub later-worst : (n : ℕ) (bs : List Bool) → worstFrom (suc n) bs ≤ 3
 later-worst n [] = omega arith
 later-worst n (b ∷ bs) =
     let h = later-worst (suc n) bs in

@@ -68,12 +68,12 @@ module _ (tables : Tables) (t : ℕ) (f v₀ g₀ : Bytes) (a : Answer) (v g : B
 
   pub can-list : isPassed a ≡ true → Listable f v g
   can-list e =
-      let fits = fit tables t f v₀ g₀ a told e in
+      let (_, h, room) = fit tables t f v₀ g₀ a told e in
       let same = checks .as-long tables t f v₀ g₀ in
       record {
-        here = fits .here;
-        inV = omega (arith, fits .room .inV, same .0, ap (λ (o : Outcome). length (o .verdicts)) is);
-        inG = omega (arith, fits .room .inF, same .1, ap (λ (o : Outcome). length (o .findings)) is);
+        here = h .here;
+        inV = omega (arith, room .inV, same .0, ap (λ (o : Outcome). length (o .verdicts)) is);
+        inG = omega (arith, room .inF, same .1, ap (λ (o : Outcome). length (o .findings)) is);
       }
 
   -- the lines that the buffers give are those of the definition

@@ -64,11 +64,11 @@ module _ (tables : Tables) (t : ℕ) where
   each-detail before [] = refl
   each-detail before (r ∷ rs) = ap suc (each-detail (before ++ r ∷ []) rs)
 
-  transaction-findings : (named : Bytes) (x : Transaction) → length (transactionFindings tables t named x) ≡ suc (length (x .details))
+  pub transaction-findings : (named : Bytes) (x : Transaction) → length (transactionFindings tables t named x) ≡ suc (length (x .details))
   unfolding transactionFindings
   transaction-findings named x = ap suc (each-detail [] (x .details))
 
-  group-findings : (g : Group) → length (groupFindings tables t g) ≡ recordsG g
+  pub group-findings : (g : Group) → length (groupFindings tables t g) ≡ recordsG g
   unfolding groupFindings
   group-findings g =
       let named = namedType (g .opening) in

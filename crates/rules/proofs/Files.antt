@@ -15,7 +15,8 @@ use Rattle.format.proofs.Examples.{fileA}
 use Rattle.rules.specs.Tables.{Tables, rightTable}
 use Rattle.rules.specs.Findings.{setOf, countOf, lowestOf, level, worst}
 use Rattle.rules.specs.Verdicts.{findingBytes, rejects, raised, isStray, groupFindings, fileFindings, transactionVerdicts, groupVerdicts, fileVerdicts}
-use Rattle.rules.specs.Outcome.{answer, Outcome, check}
+use Rattle.rules.specs.Outcome.{admission, answer, Outcome, check}
+use Rattle.rules.specs.First.{isGrave, ofEach, firstRejected, First, refusedAs, nothing, at, first}
 use Rattle.rules.specs.Listing.{figure, recordLine, answerLine, listed, mostInput, listingTables, listing}
 use Rattle.rules.proofs.Made.{_is_, made, header, writer, foundOn}
 
@@ -27,17 +28,28 @@ opening number = made "GRH" 28 (4 is "NWR" ∷ 7 is number ∷ [])
 closing : String → Bytes
 closing numbers = made "GRT" 37 (4 is numbers ∷ [])
 
+opens : Bytes
+opens = made "HDR" 167 (102 is "2.2002" ∷ [])
+
+ends : String → Bytes
+ends numbers = made "TRL" 24 (4 is numbers ∷ [])
+
+-- an ISWC with a wrong digit is defaulted, SWR is accepted and TER rejected
+mild : List Bytes
+mild =
+    header "NWR" (4 is "0000000000000000" ∷ 96 is "T0345246802" ∷ [])
+    ∷ writer "SWR" (4 is "0000000000000001" ∷ [])
+    ∷ made "TER" 24 (4 is "0000000000000002" ∷ [])
+    ∷ []
+
 fileB : Bytes
 fileB =
     unlines
-    (made "HDR" 167 (102 is "2.2002" ∷ [])
+    (opens
     ∷ opening "00001"
-    -- an ISWC with a wrong digit is defaulted, SWR is accepted and TER rejected
-    ∷ header "NWR" (4 is "0000000000000000" ∷ 96 is "T0345246802" ∷ [])
-    ∷ writer "SWR" (4 is "0000000000000001" ∷ [])
-    ∷ made "TER" 24 (4 is "0000000000000002" ∷ [])
+    ∷ mild
     -- no writer CA, A or C: the transaction is rejected
-    ∷ header "NWR" (4 is "0000000100000000" ∷ [])
+    ++ header "NWR" (4 is "0000000100000000" ∷ [])
     ∷ writer "SWR" (4 is "0000000100000001" ∷ 105 is "AR" ∷ [])
     ∷ closing "000010000000200000007"
     -- a REV in a group for NWR: the group is rejected
@@ -45,7 +57,7 @@ fileB =
     ∷ header "REV" (4 is "0000000000000000" ∷ [])
     ∷ writer "SWR" (4 is "0000000000000001" ∷ [])
     ∷ closing "000020000000100000004"
-    ∷ made "TRL" 24 (4 is "000020000000300000013" ∷ [])
+    ∷ ends "000020000000300000013"
     ∷ [])
 
 -- a set's eight bytes
@@ -167,12 +179,54 @@ listings =
     ∷ prints [] ("REFUSED 7 0" ∷ [])
     ∷ []
 
-all-files : (map computed examples ≡ map said examples) × (map printed listings ≡ map shown listings)
-unfolding examples computed said goes stops lent findingsB none listings printed shown texts fileA fileB opening closing foundOn
-    check answer rightTable structure judged lines isText decimal rows22 version22 tree findingBytes rejects raised isStray
-    groupFindings fileFindings transactionVerdicts groupVerdicts fileVerdicts setOf bytesOf level worst figure recordLine
-    answerLine listed listing countOf lowestOf
-all-files = (refl, refl)
+-- ---- the first transaction to look at
+
+-- no finding above RR
+fileC : Bytes
+fileC = unlines (opens ∷ opening "00001" ∷ mild ++ closing "000010000000100000005" ∷ ends "000010000000100000007" ∷ [])
+
+-- and in a second group a REV, which falls with the NWR before it that has no finding
+fileD : Bytes
+fileD =
+    unlines
+    (opens
+    ∷ opening "00001"
+    ∷ mild
+    ++ closing "000010000000100000005"
+    ∷ opening "00002"
+    ∷ header "NWR" (4 is "0000000000000000" ∷ [])
+    ∷ writer "SWR" (4 is "0000000000000001" ∷ [])
+    ∷ header "REV" (4 is "0000000100000000" ∷ [])
+    ∷ writer "SWR" (4 is "0000000100000001" ∷ [])
+    ∷ closing "000020000000200000006"
+    ∷ ends "000020000000300000013"
+    ∷ [])
+
+-- a tolerance, a file, and what is answered
+data Search : Type 0 where
+  finds : ℕ → Bytes → First → Search
+
+sought : Search → First
+sought (finds t f a) = first listingTables t f
+
+answered : Search → First
+answered (finds t f a) = a
+
+searches : List Search
+searches =
+    finds 6 fileA nothing
+    ∷ finds 6 fileB (at 1)
+    ∷ finds 6 fileC nothing
+    ∷ finds 6 fileD (at 2)
+    ∷ finds 7 fileB (refusedAs (refused 1 0))
+    ∷ []
+
+all-files : (map computed examples ≡ map said examples) × (map printed listings ≡ map shown listings) × (map sought searches ≡ map answered searches)
+unfolding examples computed said goes stops lent findingsB none listings printed shown texts searches sought answered fileA fileB fileC
+    fileD opens mild ends opening closing foundOn check answer admission rightTable structure judged lines isText decimal rows22
+    version22 tree findingBytes rejects raised isStray groupFindings fileFindings transactionVerdicts groupVerdicts fileVerdicts
+    setOf bytesOf level worst figure recordLine answerLine listed listing countOf lowestOf first isGrave firstRejected ofEach
+all-files = (refl, refl, refl)
 
 -- more than the program reads
 too-long : (f : Bytes) → mostInput < length f → listing f ≡ texts ("INPUT TOO LONG" ∷ [])

@@ -10,3 +10,8 @@ pub mod Made
 pub mod Examples
 pub mod Files
 pub mod Verdicts
+pub mod Bits
+pub mod Found
+pub mod OwnSets
+pub mod ReadOff
+pub mod First

@@ -11,6 +11,7 @@ use Rattle.format.specs.Bytes.{Bytes, All}
 use Rattle.format.specs.Doc.{write}
 use Rattle.format.specs.Cwr22.{cwr22}
 use Rattle.format.specs.Structure.{Answer, refused, passed, refusal, unless, structure}
+use Rattle.format.specs.Lent.{inRoom}
 use Rattle.format.specs.Claims.{isStructural, Near}
 use Rattle.format.proofs.Logic.{is-true, is-T, both, left, right}
 use Rattle.format.proofs.Answers.{tested, untested, By, refusal-by, refused-by, structure-by, never-both, later}
@@ -20,12 +21,68 @@ use Rattle.format.proofs.At22.{demand3-22, nearby-22}
 use Rattle.rules.specs.Tables.{Tables, languageSize, societySize, categorySize, rightTable}
 use Rattle.rules.specs.Values.{largestTolerance}
 use Rattle.rules.specs.Verdicts.{findingBytes, fileFindings, fileVerdicts}
-use Rattle.rules.specs.Outcome.{enough, answer, content, check, shortTolerance}
+use Rattle.rules.specs.Outcome.{enough, admission, answer, content, check, shortTolerance}
 use Rattle.rules.specs.Claims.{InOrder, Checks}
 use Rattle.rules.proofs.Joined.{length-findings}
 use Rattle.rules.proofs.Each.{pairs-counted, verdicts-each, findings-each}
 
--- ---- the answer
+-- ---- 1 to 10, before any buffer is looked at
+
+-- the tolerance and the tables are in order
+pub record Orderly (tables : Tables) (t : ℕ) : Type 0 where
+  pub tolerance : t ≤ largestTolerance
+  pub languages : rightTable languageSize (tables .languages) ≡ true
+  pub societies : rightTable societySize (tables .societies) ≡ true
+  pub categories : rightTable categorySize (tables .categories) ≡ true
+
+module _ (tables : Tables) (t : ℕ) (f : Bytes) where
+  -- then the structure decides
+  pub orderly : Orderly tables t → admission tables t f ≡ structure cwr22 f
+  unfolding admission
+  orderly o =
+      untested 1 0 (leb t largestTolerance) _ (le→leb t largestTolerance (o .tolerance))
+      ∙ untested 2 _ (rightTable languageSize (tables .languages)) _ (is-T _ (o .languages))
+      ∙ untested 2 _ (rightTable societySize (tables .societies)) _ (is-T _ (o .societies))
+      ∙ untested 2 _ (rightTable categorySize (tables .categories)) _ (is-T _ (o .categories))
+
+  -- nothing is let in else, and what is has the structure's numbers
+  pub admitted : (k m n : ℕ) → admission tables t f ≡ passed k m n → Orderly tables t × (structure cwr22 f ≡ passed k m n)
+  unfolding admission
+  admitted k m n e =
+      let (tolerance, e1) = tested 1 0 (leb t largestTolerance) _ k m n e in
+      let (languages, e2) = tested 2 _ (rightTable languageSize (tables .languages)) _ k m n e1 in
+      let (societies, e3) = tested 2 _ (rightTable societySize (tables .societies)) _ k m n e2 in
+      let (categories, e4) = tested 2 _ (rightTable categorySize (tables .categories)) _ k m n e3 in (
+        record {
+          tolerance = leb→le t largestTolerance tolerance;
+          languages = is-true _ languages;
+          societies = is-true _ societies;
+          categories = is-true _ categories;
+        },
+        e4,
+      )
+
+  -- a refusal on structure is the structure's
+  pub admission-structural : (n i : ℕ) → admission tables t f ≡ refused n i → T (isStructural n) → structure cwr22 f ≡ refused n i
+  unfolding admission
+  admission-structural n i e s =
+      let after = later n i s in
+      after 2 _ (rightTable categorySize (tables .categories)) _ (λ x. x)
+      (after 2 _ (rightTable societySize (tables .societies)) _ (λ x. x)
+      (after 2 _ (rightTable languageSize (tables .languages)) _ (λ x. x)
+      (after 1 0 (leb t largestTolerance) _ (λ x. x) e)))
+
+  -- a place is at most 2, or it is the structure's
+  pub admission-near : Near (admission tables t f)
+  unfolding admission
+  admission-near =
+      near 1 _ _ (unless-within (leb t largestTolerance) 0 (omega arith))
+      (near 2 _ _ (unless-within (rightTable languageSize (tables .languages)) _ (omega arith))
+      (near 2 _ _ (unless-within (rightTable societySize (tables .societies)) _ (omega arith))
+      (near 2 _ _ (unless-within (rightTable categorySize (tables .categories)) _ (omega arith))
+      (nearby-22 f .0))))
+
+-- ---- and 11
 
 module _ (tables : Tables) (t : ℕ) (f v g : Bytes) where
   abbrev given : Answer
@@ -35,11 +92,9 @@ module _ (tables : Tables) (t : ℕ) (f v g : Bytes) where
   pub in-order : InOrder tables t f v g → given ≡ structure cwr22 f
   unfolding answer
   in-order o =
-      untested 1 0 (leb t largestTolerance) _ (le→leb t largestTolerance (o .tolerance))
-      ∙ untested 2 _ (rightTable languageSize (tables .languages)) _ (is-T _ (o .languages))
-      ∙ untested 2 _ (rightTable societySize (tables .societies)) _ (is-T _ (o .societies))
-      ∙ untested 2 _ (rightTable categorySize (tables .categories)) _ (is-T _ (o .categories))
-      ∙ in-room (enough (length v) (length g)) (structure cwr22 f) room
+      let lent : Orderly tables t =
+      record { tolerance = o .tolerance; languages = o .languages; societies = o .societies; categories = o .categories } in
+      ap (inRoom (enough (length v) (length g))) (orderly tables t f lent) ∙ in-room (enough (length v) (length g)) (structure cwr22 f) room
     where
       room : (k m n : ℕ) → structure cwr22 f ≡ passed k m n → T (enough (length v) (length g) n)
       room k m n e =
@@ -48,47 +103,35 @@ module _ (tables : Tables) (t : ℕ) (f v g : Bytes) where
           (le→leb n (length v) (rw same at (o .inV)))
           (le→leb (8 * n) (length g) (rw same at (o .inF)))
 
-  -- a refusal on structure is the structure's
   structural : (n i : ℕ) → given ≡ refused n i → T (isStructural n) → structure cwr22 f ≡ refused n i
   unfolding answer
-  structural n i e s =
-      let after = later n i s in
-      room-later n i s (enough (length v) (length g)) (structure cwr22 f)
-      (after 2 _ (rightTable categorySize (tables .categories)) _ (λ x. x)
-      (after 2 _ (rightTable societySize (tables .societies)) _ (λ x. x)
-      (after 2 _ (rightTable languageSize (tables .languages)) _ (λ x. x)
-      (after 1 0 (leb t largestTolerance) _ (λ x. x) e))))
+  structural n i e s = admission-structural tables t f n i (room-later n i s (enough (length v) (length g)) (admission tables t f) e) s
 
-  -- a place is at most 2, or it is the structure's
   given-near : Near given
   unfolding answer
-  given-near =
-      near 1 _ _ (unless-within (leb t largestTolerance) 0 (omega arith))
-      (near 2 _ _ (unless-within (rightTable languageSize (tables .languages)) _ (omega arith))
-      (near 2 _ _ (unless-within (rightTable societySize (tables .societies)) _ (omega arith))
-      (near 2 _ _ (unless-within (rightTable categorySize (tables .categories)) _ (omega arith))
-      (room-near (enough (length v) (length g)) (structure cwr22 f) (nearby-22 f .0)))))
+  given-near = room-near (enough (length v) (length g)) (admission tables t f) (admission-near tables t f)
 
   module _ (k m n : ℕ) (e : given ≡ passed k m n) where
-    -- nothing passes unless all is in order and the structure passes, with the same numbers
-    pub passed-order : InOrder tables t f v g × (structure cwr22 f ≡ passed k m n)
+    -- nothing passes unless it is let in, with the same numbers, and has room
+    pub passed-admitted : (admission tables t f ≡ passed k m n) × T (enough (length v) (length g) n)
     unfolding answer
+    passed-admitted = room-passed (enough (length v) (length g)) (admission tables t f) k m n e
+
+    -- so all is in order and the structure passes
+    pub passed-order : InOrder tables t f v g × (structure cwr22 f ≡ passed k m n)
     passed-order =
-        let (tolerance, e1) = tested 1 0 (leb t largestTolerance) _ k m n e in
-        let (languages, e2) = tested 2 _ (rightTable languageSize (tables .languages)) _ k m n e1 in
-        let (societies, e3) = tested 2 _ (rightTable societySize (tables .societies)) _ k m n e2 in
-        let (categories, e4) = tested 2 _ (rightTable categorySize (tables .categories)) _ k m n e3 in
-        let (e5, room) = room-passed (enough (length v) (length g)) (structure cwr22 f) k m n e4 in
-        let same = pairs-counted f k m n e5 in (
+        let (let-in, room) = passed-admitted in
+        let (o, s) = admitted tables t f k m n let-in in
+        let same = pairs-counted f k m n s in (
           record {
-            tolerance = leb→le t largestTolerance tolerance;
-            languages = is-true _ languages;
-            societies = is-true _ societies;
-            categories = is-true _ categories;
+            tolerance = o .tolerance;
+            languages = o .languages;
+            societies = o .societies;
+            categories = o .categories;
             inV = rw same (leb→le n (length v) (left (leb n (length v)) (leb (8 * n) (length g)) room));
             inF = rw same (leb→le (8 * n) (length g) (right (leb n (length v)) (leb (8 * n) (length g)) room));
           },
-          e5,
+          s,
         )
 
     -- so many bytes go into the buffers, and they have room
@@ -107,30 +150,35 @@ module _ (tables : Tables) (t : ℕ) (f v g : Bytes) where
     findings-fit : length (findingBytes (fileFindings tables t (content f))) ≤ length g
     findings-fit = rw (findings-count, ← pairs-counted f k m n (passed-order .1)) (passed-order .0 .inF)
 
--- ---- by which numbers a call is refused: by 1 where the tolerance is too large, and else by 2 to 11
+-- ---- by which numbers a call is refused: by 1 where the tolerance is too large, and else by 2 to 10, and 11
 
 module _ (P : ℕ → Type 0) where
   test-by : (n i : ℕ) (b : Bool) (a : Answer) → (b ≡ false → P n) → By P a → By P (refusal n (unless b i) a)
   test-by n i true a p h = h
   test-by n i false a p h = p refl
 
-  answer-by : (tables : Tables) (t : ℕ) (f : Bytes) (v g : ℕ) → (leb t largestTolerance ≡ false → P 1)
-      → All P (2 ∷ 3 ∷ 4 ∷ 5 ∷ 6 ∷ 7 ∷ 8 ∷ 9 ∷ 10 ∷ []) → P 11 → By P (answer tables t f v g)
-  unfolding answer
-  answer-by tables t f v g p1 (p2, rest) p11 =
-      test-by 1 0 (leb t largestTolerance) _ p1
-      (refusal-by P 2 (unless (rightTable languageSize (tables .languages)) _) _ p2
-      (refusal-by P 2 (unless (rightTable societySize (tables .societies)) _) _ p2
-      (refusal-by P 2 (unless (rightTable categorySize (tables .categories)) _) _ p2
-      (room-by P (enough v g) (structure cwr22 f) p11 (structure-by cwr22 P rest f)))))
+  module _ (tables : Tables) (t : ℕ) (f : Bytes) (p1 : leb t largestTolerance ≡ false → P 1)
+      (rest : All P (2 ∷ 3 ∷ 4 ∷ 5 ∷ 6 ∷ 7 ∷ 8 ∷ 9 ∷ 10 ∷ [])) where
+    pub admission-by : By P (admission tables t f)
+    unfolding admission
+    admission-by =
+        test-by 1 0 (leb t largestTolerance) _ p1
+        (refusal-by P 2 (unless (rightTable languageSize (tables .languages)) _) _ (rest .0)
+        (refusal-by P 2 (unless (rightTable societySize (tables .societies)) _) _ (rest .0)
+        (refusal-by P 2 (unless (rightTable categorySize (tables .categories)) _) _ (rest .0)
+        (structure-by cwr22 P (rest .1) f))))
+
+    answer-by : (v g : ℕ) → P 11 → By P (answer tables t f v g)
+    unfolding answer
+    answer-by v g p11 = room-by P (enough v g) (admission tables t f) p11 admission-by
 
 -- the short form's tolerance is not too large
 not-by-1 : (tables : Tables) (f : Bytes) (v g : ℕ) → By (λ n. n ≢ 1) (answer tables shortTolerance f v g)
 not-by-1 tables f v g =
-    answer-by (λ n. n ≢ 1) tables shortTolerance f v g (λ e. absurd (false≢true (sym e))) (omega arith) (omega arith)
+    answer-by (λ n. n ≢ 1) tables shortTolerance f (λ e. absurd (false≢true (sym e))) (omega arith) v g (omega arith)
 
 by-1-to-11 : (tables : Tables) (t : ℕ) (f : Bytes) (v g : ℕ) → By (λ n. (1 ≤ n) × (n ≤ 11)) (answer tables t f v g)
-by-1-to-11 tables t f v g = answer-by (λ n. (1 ≤ n) × (n ≤ 11)) tables t f v g (λ e. (omega arith, omega arith)) (omega arith) (omega arith)
+by-1-to-11 tables t f v g = answer-by (λ n. (1 ≤ n) × (n ≤ 11)) tables t f (λ e. (omega arith, omega arith)) (omega arith) v g (omega arith)
 
 -- ---- the claims
 

@@ -1,20 +1,26 @@
--- What is claimed of the outcome of a check. proofs/Outcomes.antt has the proofs.
-use Prim.Native.Nat.{ℕ, _*_, _≤_}
+-- What is claimed of the outcome of a check, and of the first transaction to look at. proofs/Outcomes.antt and proofs/First.antt have the proofs.
+use Prim.Native.Nat.{ℕ, zero, suc, _*_, _≤_, _<_}
 use mathlib.Core.Path.{_≡_}
-use mathlib.Core.Bool.{true}
+use mathlib.Core.Bool.{Bool, true, false}
+use mathlib.Core.List.{List, [], _∷_, _++_, map}
 use mathlib.Core.Logic.{_↔_, _≢_}
 use lib.ListN.{length, take, drop}
 use lib.Dec.{T}
 use Rattle.format.specs.Bytes.{Bytes, pairs}
-use Rattle.format.specs.Doc.{Doc, write}
+use Rattle.format.specs.Doc.{Doc, Group, write}
 use Rattle.format.specs.Cwr22.{cwr22}
 use Rattle.format.specs.WellFormed.{WellFormed}
-use Rattle.format.specs.Structure.{passed, refused}
+use Rattle.format.specs.Structure.{Answer, passed, refused, mostRecords}
+use Rattle.format.specs.Tree.{Tree}
 use Rattle.format.specs.Claims.{Limits, Content, lengths, isStructural, Near}
 use Rattle.rules.specs.Tables.{Tables, languageSize, societySize, categorySize, rightTable}
 use Rattle.rules.specs.Values.{largestTolerance}
-use Rattle.rules.specs.Verdicts.{findingBytes, fileFindings, fileVerdicts}
+use Rattle.rules.specs.Records.{any}
+use Rattle.rules.specs.Findings.{places}
+use Rattle.rules.specs.Works.{namedType, transactionFindings}
+use Rattle.rules.specs.Verdicts.{joined, findingBytes, fileFindings, fileVerdicts}
 use Rattle.rules.specs.Outcome.{Outcome, check, content, shortTolerance}
+use Rattle.rules.specs.First.{isGrave, ofEach, firstRejected, refusedAs, nothing, at, seen, first}
 
 -- what is lent beside the file is in order: tolerance and tables (1, 2), and a buffer entry for each record, the text before a CR LF (11)
 pub record InOrder (tables : Tables) (t : ℕ) (f v g : Bytes) : Type 0 where
@@ -66,3 +72,46 @@ pub record Checks : Type 0 where
   pub numbers : (tables : Tables) (t : ℕ) (f v g : Bytes) (n i : ℕ) → check tables t f v g .answer ≡ refused n i → (1 ≤ n) × (n ≤ 11)
   -- its place and the number of records have much room in 32 bits
   pub near : (tables : Tables) (t : ℕ) (f v g : Bytes) → Near (check tables t f v g .answer)
+
+-- ---- the first transaction to look at
+
+-- the sets that a buffer has for n records: eight bytes each, in each byte eight findings, the lowest bit first
+abbrev pub setsIn : ℕ → Bytes → List (List Bool)
+setsIn zero buffer = []
+setsIn (suc n) buffer = joined (places 8) (take 8 buffer) ∷ setsIn n (drop 8 buffer)
+
+-- the transactions of a file in their order, each with the sets of its own records
+abbrev pub ownSets : Tables → ℕ → Tree → List (List (List Bool))
+ownSets tables t d = joined (λ (g : Group). map (transactionFindings tables t (namedType (g .opening))) (g .transactions)) (d .groups)
+
+-- transaction k of the file has a TR or GR finding of its own, and none before it has one
+pub record IsFirst (tables : Tables) (t : ℕ) (d : Tree) (k : ℕ) : Type 0 where
+  pub before : List (List (List Bool))
+  pub after : List (List (List Bool))
+  pub own : List (List Bool)
+  pub split : ownSets tables t d ≡ before ++ own ∷ after
+  pub place : length before ≡ k
+  pub none-before : any (any isGrave) before ≡ false
+  pub grave : any isGrave own ≡ true
+
+pub record Firsts : Type 0 where
+  -- the sets of a file's records, cut by transactions, are those that the rules give for each transaction
+  pub own-sets : (tables : Tables) (t : ℕ) (d : Tree) → ofEach d (fileFindings tables t d) ≡ ownSets tables t d
+  -- it is what is read off the bytes of the findings buffer, where a check passes with n records,
+  pub read-off : (tables : Tables) (t : ℕ) (f v g : Bytes) (k m n : ℕ) → check tables t f v g .answer ≡ passed k m n
+      → first tables t f ≡ seen (firstRejected (content f) (setsIn n (check tables t f v g .findings)))
+  -- and refused as the check is, whatever buffers that one is lent, but for 11
+  pub refused-as : (tables : Tables) (t : ℕ) (f v g : Bytes) (a : Answer) → first tables t f ≡ refusedAs a → check tables t f v g .answer ≡ a
+  pub as-refused : (tables : Tables) (t : ℕ) (f v g : Bytes) (n i : ℕ) → check tables t f v g .answer ≡ refused n i → n ≢ 11
+      → first tables t f ≡ refusedAs (refused n i)
+  pub never-11 : (tables : Tables) (t : ℕ) (f : Bytes) (a : Answer) → first tables t f ≡ refusedAs a
+      → (n : ℕ) × (i : ℕ) × (a ≡ refused n i) × (1 ≤ n) × (n ≤ 10)
+  -- nothing: no record of the file has a TR or GR finding
+  pub no-record : (tables : Tables) (t : ℕ) (f : Bytes) → first tables t f ≡ nothing → any isGrave (fileFindings tables t (content f)) ≡ false
+  -- a transaction that is named has such a finding of its own, and no earlier one has;
+  pub named : (tables : Tables) (t : ℕ) (f : Bytes) (k : ℕ) → first tables t f ≡ at k → IsFirst tables t (content f) k
+  -- so one without is not named, though it may fall with its group
+  pub only-own : (tables : Tables) (t : ℕ) (f : Bytes) (before after : List (List (List Bool))) (own : List (List Bool))
+      → ownSets tables t (content f) ≡ before ++ own ∷ after → any isGrave own ≡ false → first tables t f ≢ at (length before)
+  -- its number is below that of the records
+  pub near : (tables : Tables) (t : ℕ) (f : Bytes) (k : ℕ) → first tables t f ≡ at k → k < mostRecords

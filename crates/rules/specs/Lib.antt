@@ -13,5 +13,6 @@ pub mod Chains
 pub mod Works
 pub mod Verdicts
 pub mod Outcome
+pub mod First
 pub mod Listing
 pub mod Claims

@@ -18,14 +18,18 @@ use Rattle.rules.specs.Verdicts.{findingBytes, fileFindings, fileVerdict
 abbrev pub enough : ℕ → ℕ → ℕ → Bool
 enough v g r = leb r v && leb (8 * r) g
 
--- 1 to 11 in their order, for buffers of v and g bytes
-unfoldable pub answer : Tables → ℕ → Bytes → ℕ → ℕ → Answer
-answer tables t f v g =
+-- 1 to 10 in their order: what is answered before any buffer is looked at
+unfoldable pub admission : Tables → ℕ → Bytes → Answer
+admission tables t f =
     refusal 1 (unless (leb t largestTolerance) 0)
     (refusal 2 (unless (rightTable languageSize (tables .languages)) 0)
     (refusal 2 (unless (rightTable societySize (tables .societies)) 1)
     (refusal 2 (unless (rightTable categorySize (tables .categories)) 2)
-    (inRoom (enough v g) (structure cwr22 f)))))
+    (structure cwr22 f))))
+
+-- and 11, for buffers of v and g bytes
+unfoldable pub answer : Tables → ℕ → Bytes → ℕ → ℕ → Answer
+answer tables t f v g = inRoom (enough v g) (admission tables t f)
 
 -- the groups and transactions of a file, each record whole
 abbrev pub content : Bytes → Tree

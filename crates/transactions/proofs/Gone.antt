@@ -1,5 +1,5 @@
 -- The walk over the details of a transaction as its loop keeps it, whatever is done with each detail. Assumes nothing.
-use Prim.Native.Nat.{ℕ, _+_, _-_, _^_, _≤_, _<_}
+use Prim.Native.Nat.{ℕ, _+_, _^_, _≤_, _<_}
 use native.Mathlib.Omega.{arith}
 use mathlib.Core.Path.{_≡_, refl, sym, ap, _∙_, subst}
 use mathlib.Core.Bool.{Bool, true, false}
@@ -8,7 +8,7 @@ use lib.ListN.{length, take, drop, length-append}
 use Rattle.format.specs.Bytes.{Bytes}
 use Rattle.format.specs.Table.{Class, head, detail}
 use Rattle.format.specs.Cwr22.{cwr22}
-use Rattle.format.specs.Checks.{is, cls, code, classAt}
+use Rattle.format.specs.Checks.{is, cls, code}
 use Rattle.format.specs.Structure.{mostRecords, firstOf}
 use Rattle.format.specs.Tree.{span, after, isDetail}
 use Rattle.format.proofs.Logic.{is-T}
@@ -17,20 +17,19 @@ use Rattle.format.proofs.Tree.{is→eq}
 use Rattle.kinds.specs.declared.Row.{Row}
 use Rattle.kinds.specs.Rows.{rowFor}
 use Rattle.kinds.proofs.Laws.{class-is}
-use Rattle.structure.specs.Cursor.{Here, First}
-use Rattle.structure.proofs.Cursor.{first as record-here, three-left, placed-like}
+use Rattle.structure.specs.Cursor.{Here}
+use Rattle.structure.proofs.Cursor.{three-left, placed-like}
 use Rattle.chains.specs.Tallies.{Chains, Tallied, Small}
 use Rattle.chains.proofs.Laws.{small}
 use Rattle.totals.specs.Sums.{Below}
 use Rattle.tally.specs.Known.{Known}
-use Rattle.tally.specs.declared.Tally.{Tally}
 use Rattle.tally.proofs.Laws.{below-limits}
-use Rattle.edits.specs.Kinds.{Stands}
 use Rattle.headers.specs.declared.Links.{Links}
 use Rattle.headers.specs.Headed.{Linked}
 use Rattle.transactions.specs.declared.Walk.{Walk}
-use Rattle.transactions.specs.Walk.{restAt, tailOf, Position, PastDetails}
+use Rattle.transactions.specs.Walk.{restAt, tailOf, Position, Outset, PastDetails}
 use Rattle.transactions.proofs.Levels.{Going, going-none, going-on, going-all, first-left, first-here}
+use Rattle.transactions.proofs.Standing.{front, is-detail}
 use Rattle.transactions.proofs.Sizes.{step}
 
 pub length-parted : (p : Bytes → Bool) (rs : List Bytes) → length (span p rs) + length (after p rs) ≡ length rs
@@ -48,11 +47,16 @@ abbrev pub Inv : (f : Bytes) (m start : ℕ) (claim : List Bytes → Type 0) (c 
 Inv f m start claim c w = (ds : List Bytes) × Gone f m start claim c w ds
 
 -- the start
-pub begins : {f : Bytes} {m start first : ℕ} {claim : List Bytes → Type 0} {c : Chains} {y : Tally} → Position f m start first head (restAt f start)
-    → Tallied c [] → Known y [] → claim [] → Inv f m start claim c (record { at = start; index = first; tally = y })
-begins {f} {m} {start} p t k done = (
+pub begins : {f : Bytes} {m start first : ℕ} {claim : List Bytes → Type 0} {c : Chains} {w : Walk} → Position f m start first head (restAt f start)
+    → Outset start first w → Tallied c [] → claim [] → Inv f m start claim c w
+begins {f} {m} {start} p o t done = (
   [],
-  record { going = going-none (span (isDetail cwr22)) f m start head p done; rest = refl; known = k; tallied = t },
+  record {
+    going = rw (o .at, o .index) (going-none (span (isDetail cwr22)) f m start head p done);
+    rest = rw (o .at) refl;
+    known = o .known;
+    tallied = t;
+  },
 )
 
 module _ {f : Bytes} {m start : ℕ} {claim : List Bytes → Type 0} {c : Chains} {w : Walk} (inv : Inv f m start claim c w) where
@@ -63,25 +67,23 @@ module _ {f : Bytes} {m start : ℕ} {claim : List Bytes → Type 0} {c : Chains
   unfolding ds
   gone = inv .1
 
-  pub r : Bytes
+  abbrev pub r : Bytes
   r = firstOf (restAt f (w .at))
 
-  pub rs : List Bytes
+  abbrev rs : List Bytes
   rs = tailOf (restAt f (w .at))
 
   pub position : Position f m (w .at) (w .index) head (restAt f (w .at))
   position = gone .going .position
 
   left : restAt f (w .at) ≡ r ∷ rs
-  unfolding r rs
   left = first-left (position .here) refl
 
-  here : Here f (w .at) head (r ∷ rs)
-  unfolding r rs
-  here = first-here (position .here) refl
+  pub here : Here f (w .at) head (restAt f (w .at))
+  here = position .here
 
   pub three : w .at + 3 ≤ length f
-  three = three-left here
+  three = three-left (first-here here refl)
 
   -- ---- what is known so far
 
@@ -93,6 +95,13 @@ module _ {f : Bytes} {m start : ℕ} {claim : List Bytes → Type 0} {c : Chains
 
   pub done : claim ds
   done = gone .going .done
+
+  pub split-left : span (isDetail cwr22) (restAt f start) ≡ ds ++ span (isDetail cwr22) (restAt f (w .at))
+  split-left = gone .going .split
+
+  -- a record stands here, so its number is one of theirs
+  pub numbered : m ≤ mostRecords → w .index < mostRecords
+  numbered few = omega (arith, few, position .left, ap length left)
 
   module _ (few : length (restAt f start) ≤ mostRecords) where
     fewer : length ds ≤ mostRecords
@@ -109,59 +118,44 @@ module _ {f : Bytes} {m start : ℕ} {claim : List Bytes → Type 0} {c : Chains
   -- ---- the record that stands here
 
   module _ {kind : Row} (its : kind ≡ rowFor (take 3 (drop (w .at) f))) where
-    front : First f (w .at) head kind r rs
-    front = record-here here kind its
-
-    pub ends : w .at + kind .length + 2 ≤ length f
-    ends = front .ends
-
-    pub lent : (e : ℕ) → e ≡ w .at + kind .length → take (e - w .at) (drop (w .at) f) ≡ r
-    lent e q = let n : e - w .at ≡ kind .length = omega arith in rw n (front .bytes)
-
-    is-detail : kind .class ≡ 3 → cls cwr22 r ≡ detail
-    is-detail p = front .class ∙ ap classAt p
-
-    pub stands : kind .class ≡ 3 → Stands kind r
-    stands p = ((front .own, is-detail p), front .long)
-
-    -- a detail: the walk stands after it, and knows it too
-    module _ (p : kind .class ≡ 3) (end : ℕ) (q : end ≡ w .at + kind .length) where
+    -- a detail, the first of those that are left
+    module _ (p : kind .class ≡ 3) where
       is-it : isDetail cwr22 r ≡ true
-      is-it = rw (is-detail p)
+      is-it = rw (is-detail here its p)
 
-      after-it : Position f m (end + 2) (w .index + 1) head rs
-      unfolding rs
-      after-it =
-          let after-detail = subst (λ (k : Class). Here f (w .at + kind .length + 2) k rs) (is-detail p) (front .next) in
-          step position refl (rw q (placed-like detail head refl (λ e k. k) after-detail))
-
-      -- it is the first of the details that are left
       first-of : span (isDetail cwr22) (restAt f (w .at)) ≡ r ∷ span (isDetail cwr22) rs
       first-of = ap (span (isDetail cwr22)) left ∙ rw is-it
 
-      next : restAt f (end + 2) ≡ rs
-      next = after-it .here .left
+      -- the walk stands after it, and knows it too
+      module _ (v : Walk) (at : v .at ≡ w .at + kind .length + 2) (index : v .index ≡ w .index + 1) where
+        after-it : Position f m (v .at) (v .index) head rs
+        after-it =
+            let after-detail = subst (λ (k : Class). Here f (w .at + kind .length + 2) k rs) (is-detail here its p) (front here its .next) in
+            rw (at, index) (step position refl (placed-like detail head refl (λ e k. k) after-detail))
 
-      pub one-more : {claim' : List Bytes → Type 0} {c' : Chains} {y : Tally} → Known y (ds ++ r ∷ []) → Tallied c' (ds ++ r ∷ [])
-          → claim' (ds ++ r ∷ []) → Inv f m start claim' c' (record { at = end + 2; index = w .index + 1; tally = y })
-      one-more k t done' = (
-        ds ++ r ∷ [],
-        record {
-          going = going-on (span (isDetail cwr22)) f m start head (gone .going) r first-of after-it done';
-          rest = gone .rest ∙ ap (after (isDetail cwr22)) left ∙ rw is-it (ap (after (isDetail cwr22)) (sym next));
-          known = k;
-          tallied = t;
-        },
-      )
+        next : restAt f (v .at) ≡ rs
+        next = after-it .here .left
 
-      -- so fewer are left
-      pub fewer-left : length (restAt f (end + 2)) < length (restAt f (w .at))
-      fewer-left = omega (arith, ap length next, ap length left)
+        pub one-more : {claim' : List Bytes → Type 0} {c' : Chains} → Known (v .tally) (ds ++ r ∷ []) → Tallied c' (ds ++ r ∷ [])
+            → claim' (ds ++ r ∷ []) → Inv f m start claim' c' v
+        one-more k t done' = (
+          ds ++ r ∷ [],
+          record {
+            going = going-on (span (isDetail cwr22)) f m start head (gone .going) r first-of after-it done';
+            rest = gone .rest ∙ ap (after (isDetail cwr22)) left ∙ rw is-it (ap (after (isDetail cwr22)) (sym next));
+            known = k;
+            tallied = t;
+          },
+        )
+
+        -- so fewer are left
+        pub fewer-left : length (restAt f (v .at)) < length (restAt f (w .at))
+        fewer-left = omega (arith, ap length next, ap length left)
 
     -- no detail: all are done
     no-detail : (kind .class ≡ 3 → ⊥) → isDetail cwr22 r ≡ false
     no-detail n =
-        let placed = ap (λ (k : Row). k .class) (front .own) ∙ class-is r in
+        let placed = ap (λ (k : Row). k .class) (front here its .own) ∙ class-is r in
         by-cases (isDetail cwr22 r)
         (λ e. absurd (n (placed ∙ ap code (sym (is→eq detail (cls cwr22 r) (is-T (isDetail cwr22 r) e))))))
         (λ e. e)
@@ -174,10 +168,9 @@ module _ {f : Bytes} {m start : ℕ} {claim : List Bytes → Type 0} {c : Chains
       after-all = gone .rest ∙ ap (after (isDetail cwr22)) left ∙ rw (no-detail n) (sym left)
 
       pub past : (l : Links) (b : Bool) → Linked l ds → PastDetails f m (restAt f start) (record { walk = w; links = l; class = kind .class; rejects = b })
-      unfolding r
       past l b k = record {
         position = rw after-all position;
-        class = rw after-all (sym (front .class));
+        class = rw after-all (sym (front here its .class));
         known = rw all-details known;
         linked = rw all-details k;
       }

@@ -2,5 +2,6 @@ pub mod Levels
 pub mod Sizes
 pub mod Entries
 pub mod Laws
+pub mod Standing
 pub mod Gone
 pub mod Fronts

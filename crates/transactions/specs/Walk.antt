@@ -1,7 +1,7 @@
 -- Internal: a walk over the records of a file: where it stands, what it knows of a transaction, and what it has written.
 use mathlib.Core.Path.{_≡_}
-use mathlib.Core.Bool.{Bool}
-use mathlib.Core.List.{List, [], _∷_, map}
+use mathlib.Core.Bool.{Bool, true, false}
+use mathlib.Core.List.{List, [], _∷_, _++_, map}
 use Prim.Native.Nat.{ℕ, _+_, _*_, _≤_}
 use lib.ListN.{length, drop}
 use Rattle.format.specs.Bytes.{Bytes}
@@ -20,9 +20,12 @@ use Rattle.rules.specs.Works.{is0, detailsFrom, transactionFindings}
 use Rattle.rules.specs.Records.{any}
 use Rattle.rules.specs.Verdicts.{rejects, transactionVerdicts}
 use Rattle.structure.specs.Cursor.{Here}
+use Rattle.edits.specs.Judged.{Judged}
 use Rattle.tally.specs.Known.{Known}
 use Rattle.headers.specs.Headed.{Linked}
 use Rattle.buffers.specs.Written.{Written}
+use Rattle.transactions.specs.declared.Walk.{Walk}
+use Rattle.transactions.specs.declared.Turn.{Turn}
 use Rattle.transactions.specs.declared.Details.{Details}
 use Rattle.transactions.specs.declared.Passed.{Passed}
 
@@ -44,6 +47,18 @@ Prepared slots = (tables : Tables) × Indexed tables slots
 pub record Position (f : Bytes) (m at n : ℕ) (c : Class) (rs : List Bytes) : Type 0 where
   pub here : Here f at c rs
   pub left : n + length rs ≡ m
+
+-- before the first detail, which would begin at that byte and be that record of the file
+pub record Outset (start n : ℕ) (w : Walk) : Type 0 where
+  pub at : w .at ≡ start
+  pub index : w .index ≡ n
+  pub known : Known (w .tally) []
+  pub met : w .met ≡ record { many = false; joined = false; kept = false }
+
+-- one detail on: the findings of r after the details ds, and what is known with it
+pub record Turned (tables : Tables) (ds : List Bytes) (r : Bytes) (s : Turn) : Type 0 where
+  pub judged : Judged tables ds r (s .found)
+  pub known : Known (s .walk .tally) (ds ++ r ∷ [])
 
 -- past the details at the front of the records rs
 pub record PastDetails (f : Bytes) (m : ℕ) (rs : List Bytes) (d : Details) : Type 0 where
@@ -75,9 +90,11 @@ pub record Filled (i n : ℕ) (vs : List ℕ) (sets : List (List Bool)) (v₀ g�
   pub end : n ≡ i + length sets
   pub written : Written i vs sets v₀ g₀ v g
 
--- the details ds are records i to n, each with its own verdict; and whether one of them rejects the transaction
-pub record FilledDetails (tables : Tables) (i n : ℕ) (ds : List Bytes) (rejected : Bool) (v₀ g₀ v g : Bytes) : Type 0 where
-  pub filled : Filled i n (map worst (detailsFrom tables [] ds)) (detailsFrom tables [] ds) v₀ g₀ v g
+-- the details ds are records i to n, and whether one of them rejects the transaction: each has got its own verdict, but where they are only
+-- searched nothing is written
+pub record DoneDetails (searched : Bool) (tables : Tables) (i n : ℕ) (ds : List Bytes) (rejected : Bool) (v₀ g₀ v g : Bytes) : Type 0 where
+  pub filled : searched ≡ false → Filled i n (map worst (detailsFrom tables [] ds)) (detailsFrom tables [] ds) v₀ g₀ v g
+  pub kept : searched ≡ true → (v ≡ v₀) × (g ≡ g₀)
   pub rejects : rejected ≡ any rejects (detailsFrom tables [] ds)
 
 -- the transaction x is records i to n

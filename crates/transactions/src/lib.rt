@@ -1,6 +1,7 @@
 // One transaction of a file that is right by 3 to 10: its details are judged and counted one by one, then its header is judged by what
 // was counted. Each record's set and verdict is written as it comes.
 use chains::Met;
+use edits::Found;
 use findings::TR;
 use headers::Head;
 use headers::Links;
@@ -8,33 +9,62 @@ use kinds::DETAIL;
 use kinds::Row;
 use tally::Tally;
 ghost use mathlib.Core.Path.{_≡_};
-ghost use mathlib.Core.Bool.{Bool, true};
-ghost use mathlib.Core.List.{List};
-ghost use Prim.Native.Nat.{ℕ, _+_, _^_, _<_, _≤_};
+ghost use mathlib.Core.Bool.{Bool, true, false, _&&_};
+ghost use mathlib.Core.List.{List, [], _∷_, _++_};
+ghost use Prim.Native.Nat.{ℕ, _+_, _*_, _^_, _<_, _≤_};
 ghost use lib.ListN.{length, take, drop};
 ghost use Rattle.format.specs.Bytes.{Bytes, sameBytes};
 ghost use Rattle.format.specs.Table.{head};
 ghost use Rattle.format.specs.Cwr22.{cwr22};
 ghost use Rattle.format.specs.Checks.{cls};
-ghost use Rattle.format.specs.Structure.{mostBytes, firstOf};
+ghost use Rattle.format.specs.Structure.{mostBytes, mostRecords, firstOf};
 ghost use Rattle.format.specs.Tree.{span, isDetail};
 ghost use Rattle.rules.specs.Tables.{Tables};
 ghost use Rattle.rules.specs.Values.{largestTolerance};
+ghost use Rattle.rules.specs.Findings.{setOf};
 ghost use Rattle.tables.specs.Index.{Indexed};
+ghost use Rattle.buffers.specs.Written.{Written};
 ghost use Rattle.kinds.specs.Rows.{typeOf, rowFor};
-ghost use Rattle.chains.specs.Tallies.{chainsOf, Tallied};
+ghost use Rattle.chains.specs.Tallies.{chainsOf, Tallied, Small};
 ghost use Rattle.totals.specs.Sums.{Below};
 ghost use Rattle.tally.specs.Known.{Known};
 ghost use Rattle.headers.specs.Headed.{Linked, Headed};
 ghost use Rattle.structure.specs.Cursor.{Here};
-ghost use Rattle.transactions.specs.Walk.{restAt, frontOf, Prepared, Room, PastDetails, FilledDetails, PastTransaction, FilledTransaction};
+ghost use Rattle.transactions.specs.Walk.{Outset, Turned};
+ghost use Rattle.transactions.specs.Walk.{restAt, frontOf, Prepared, Room, PastDetails, DoneDetails, PastTransaction, FilledTransaction};
 
-// Where the walk over a transaction's details stands: at a byte of the file, before a record of that number; and what is known of the
-// details so far.
+// Where a walk over a transaction's details stands: at a byte of the file, before a record of that number; and what is known of the
+// details so far. The tallies of their chains are kept beside it.
 pub struct Walk {
     pub at: usize,
     pub index: usize,
     pub tally: Tally,
+    pub met: Met,
+}
+
+impl Walk {
+    // Before the first detail.
+    pub fn start(at: usize, index: usize) -> Walk
+        ensures { λ w. ⌜ Outset at index w ⌝ }
+    {
+        let tally = Tally::start();
+        Walk {
+            at: at,
+            index: index,
+            tally: tally,
+            met: Met {
+                many: false,
+                joined: false,
+                kept: false,
+            },
+        }
+    }
+}
+
+// One detail on: what was found of it, and where the walk stands after it.
+pub struct Turn {
+    pub found: Found,
+    pub walk: Walk,
 }
 
 // After the last detail, with the shares' totals in the walk's tally: what the chains have of findings 11 to 14, the class of the record
@@ -62,21 +92,93 @@ fn row_at(hinted: Row, file: &[u8], at: usize) -> Row
     kinds::confirmed_row(hinted, &file[at..])
 }
 
-// The details that stand here, after a header; the first of them is that record of the file.
-fn judge_details(
+// The detail before which the walk stands, and whose row this is.
+fn judge_detail(
+    file: &[u8],
+    row: Row,
+    w: Walk,
+    slots: &tables::Slots,
+    begun: &mut [u8; 100],
+    es: &mut [u32; 100],
+    own: &mut [bool; 100],
+    paid: &mut [bool; 100],
+    sums: &mut [u64; 100],
+) -> Turn
+    requires { ⌜ (length (now file) ≤ mostBytes) × Here (now file) (w .at) head (restAt (now file) (w .at))
+        × (row ≡ rowFor (take 3 (drop (w .at) (now file)))) × (row .class ≡ 3) × (w .index < mostRecords) ⌝ }
+    requires { ⌜ Below (2 ^ 60) (w .tally .totals) × Small (now es) (now sums) ⌝ }
+    ensures { λ s. ⌜ (s .walk .at ≡ w .at + row .length + 2) × (s .walk .index ≡ w .index + 1) ⌝ }
+    ensures { λ s. ⌜ ((tables : Tables) (ds : List Bytes) → Indexed tables (now (slots .entry)) → Known (w .tally) ds
+        → Tallied (chainsOf (now (begun .entry)) (now (es .entry)) (now (own .entry)) (now (paid .entry)) (now (sums .entry)) (w .met)) ds
+        → Turned tables ds (firstOf (restAt (now (file .entry)) (w .at))) s
+        × Tallied (chainsOf (now (begun .exit)) (now (es .exit)) (now (own .exit)) (now (paid .exit)) (now (sums .exit)) (s .walk .met))
+        (ds ++ firstOf (restAt (now (file .entry)) (w .at)) ∷ [])) ⌝ }
+{
+    let at = w.at;
+    let end = at + row.size();
+    let s = details::judge(
+        &file[at..end],
+        row,
+        w.tally,
+        w.met,
+        slots,
+        begun,
+        es,
+        own,
+        paid,
+        sums,
+    );
+    let found = s.found;
+    let tally = s.tally;
+    let met = s.met;
+    Turn {
+        found: found,
+        walk: Walk {
+            at: end + 2,
+            index: w.index + 1,
+            tally: tally,
+            met: met,
+        },
+    }
+}
+
+// A detail's entry, unless it is only searched.
+fn settle_unless(
+    searched: bool,
+    index: usize,
+    found: Found,
+    verdicts: &mut [u8],
+    findings: &mut [u8],
+)
+    requires { ⌜ (searched ≡ false → (index < length (now verdicts)) × (8 * (index + 1) ≤ length (now findings))) ⌝ }
+    ensures { λ _. ⌜ (searched ≡ false → (set : List Bool) → found .set ≡ setOf set → Written index (found .level ∷ []) (set ∷ [])
+        (now (verdicts .entry)) (now (findings .entry)) (now (verdicts .exit)) (now (findings .exit))) ⌝ }
+    ensures { λ _. ⌜ (searched ≡ true → (now (verdicts .exit) ≡ now (verdicts .entry)) × (now (findings .exit) ≡ now (findings .entry))) ⌝ }
+{
+    if !searched {
+        buffers::settle(index, found.set, found.level, verdicts, findings);
+    }
+}
+
+// The details that stand here, after a header; the first of them is that record of the file. Each one's entry is written; or, where they are
+// only searched, nothing is, and none is judged after one that rejects the transaction.
+pub fn judge_details(
     file: &[u8],
     start: usize,
     first: usize,
     slots: &tables::Slots,
+    searched: bool,
     verdicts: &mut [u8],
     findings: &mut [u8],
 ) -> Details
     requires { ⌜ (length (now file) ≤ mostBytes) × Here (now file) start head (restAt (now file) start)
-        × Room (first + length (restAt (now file) start)) (length (now verdicts)) (length (now findings)) ⌝ }
+        × (first + length (restAt (now file) start) ≤ mostRecords)
+        × (searched ≡ false → Room (first + length (restAt (now file) start)) (length (now verdicts)) (length (now findings))) ⌝ }
     requires { ⌜ Prepared (now slots) ⌝ }
-    ensures { λ d. ⌜ PastDetails (now (file .entry)) (first + length (restAt (now (file .entry)) start)) (restAt (now (file .entry)) start) d ⌝ }
+    ensures { λ d. ⌜ ((searched && d .rejects) ≡ false
+        → PastDetails (now (file .entry)) (first + length (restAt (now (file .entry)) start)) (restAt (now (file .entry)) start) d) ⌝ }
     ensures { λ d. ⌜ ((tables : Tables) → Indexed tables (now (slots .entry))
-        → FilledDetails tables first (d .walk .index) (span (isDetail cwr22) (restAt (now (file .entry)) start)) (d .rejects)
+        → DoneDetails searched tables first (d .walk .index) (span (isDetail cwr22) (restAt (now (file .entry)) start)) (d .rejects)
         (now (verdicts .entry)) (now (findings .entry)) (now (verdicts .exit)) (now (findings .exit))) ⌝ }
 {
     let rows = kinds::table();
@@ -85,24 +187,14 @@ fn judge_details(
     let mut own: [bool; 100] = [false; 100];
     let mut paid: [bool; 100] = [false; 100];
     let mut sums: [u64; 100] = [0; 100];
-    let mut met = Met {
-        many: false,
-        joined: false,
-        kept: false,
-    };
-    let none = Tally::start();
-    let mut w = Walk {
-        at: start,
-        index: first,
-        tally: none,
-    };
+    let mut w = Walk::start(start, first);
     let mut rejects = false;
     loop {
         let at = w.at;
         let k = hint_at(file, at);
         let row = row_at(rows[k], file, at);
-        if row.class != DETAIL {
-            let links = links_of(met, &begun, &sums);
+        if (row.class != DETAIL) | (searched & rejects) {
+            let links = links_of(w.met, &begun, &sums);
             return Details {
                 walk: w,
                 links: links,
@@ -110,12 +202,10 @@ fn judge_details(
                 rejects: rejects,
             };
         }
-        let end = at + row.size();
-        let s = details::judge(
-            &file[at..end],
+        let s = judge_detail(
+            file,
             row,
-            w.tally,
-            met,
+            w,
             slots,
             &mut begun,
             &mut es,
@@ -123,16 +213,10 @@ fn judge_details(
             &mut paid,
             &mut sums,
         );
-        met = s.met;
         let found = s.found;
-        buffers::settle(w.index, found.set, found.level, verdicts, findings);
+        settle_unless(searched, w.index, found, verdicts, findings);
         rejects = rejects | (found.level == TR);
-        let more = s.tally;
-        w = Walk {
-            at: end + 2,
-            index: w.index + 1,
-            tally: more,
-        };
+        w = s.walk;
     }
 }
 
@@ -150,7 +234,7 @@ fn links_of(met: Met, begun: &[u8; 100], sums: &[u64; 100]) -> Links
 }
 
 // The header that stands here, by what is known of its details. named is the type that GRH names, and t the tolerance.
-fn judge_header(
+pub fn judge_header(
     file: &[u8],
     at: usize,
     named: &[u8],
@@ -205,6 +289,7 @@ pub fn judge_transaction(
         at + kinds::HEADER_LENGTH as usize + 2,
         index + 1,
         slots,
+        false,
         verdicts,
         findings,
     );

@@ -102,13 +102,13 @@ add-t23 : tie.Need-add-t23
 add-t23 c =
     let inside = inside-of (closed-of (least-of c)) in
     let start = start-of (opened-of inside) in
-    omega (arith, closing-ends (position start) (start .pre .0 .2) _ refl (inside .judge-transactions .ensures .0), start .pre .0 .0)
+    omega (arith, closing-ends (position start) (start .pre .0 .2) (past inside), start .pre .0 .0)
 
 add-t35 : tie.Need-add-t35
 add-t35 c =
     let inside = inside-of (closed-of (least-of c)) in
     let start = start-of (opened-of inside) in
-    omega (arith, closing-ends (position start) (start .pre .0 .2) _ refl (inside .judge-transactions .ensures .0), start .pre .0 .0)
+    omega (arith, closing-ends (position start) (start .pre .0 .2) (past inside), start .pre .0 .0)
 
 whole : tie.Need-returns
 whole c =
@@ -119,7 +119,7 @@ whole c =
     let start = start-of opened in
     let is-grh = start .pre .0 .2 in
     let named = opened .before .before .before .field .ensures .0 ∙ ap namedType (opening-lent (position start) is-grh _ refl) in (
-      past-group (position start) is-grh _ refl (inside .judge-transactions .ensures .0),
+      past-group (position start) is-grh (past inside),
       λ tables e. filled-group tables (start .args .t) (restAt (start .args .file .now) (start .args .at)) (inside .judge-transactions .result)
           named (opened .settle-control .ensures)
           (rw (left-after group-header (position start) refl is-grh _ refl) at (inside .judge-transactions .ensures .1 tables e))

@@ -41,7 +41,7 @@ judge-details-requires : tie.Need-judge-details-requires
 judge-details-requires c κs =
     let start = c .before .before .before .before .before .before in
     let inside = position-after transaction-header (position start) refl (start .pre .0 .2) _ refl in
-    ((start .pre .0 .0, inside .here, rw (inside .left) (start .pre .0 .3)), start .pre .1 .1)
+    ((start .pre .0 .0, inside .here, rw (inside .left) (start .pre .0 .3 .few), λ e. rw (inside .left) (start .pre .0 .3)), start .pre .1 .1)
 
 past : (c : tie.After-judge-details) → PastDetails (start-of c .args .file .now)
     (start-of c .args .index + length (restAt (start-of c .args .file .now) (start-of c .args .at)))
@@ -49,7 +49,7 @@ past : (c : tie.After-judge-details) → PastDetails (start-of c .args .file .no
 past c =
     let start = start-of c in
     known-after transaction-header (position start) refl (start .pre .0 .2) _ refl (λ k l. PastDetails (start .args .file .now) k l (c .judge-details .result))
-    (c .judge-details .ensures .0)
+    (c .judge-details .ensures .0 refl)
 
 -- ---- its header
 
@@ -58,7 +58,7 @@ judge-header-requires c κs =
     let judged = c .before .before .before .before .before .before .before in
     let start = start-of judged in
     let inside = position-after transaction-header (position start) refl (start .pre .0 .2) _ refl in
-    let below = past-below (judged .judge-details .ensures .0) (omega (arith, inside .left, start .pre .0 .3 .few)) in
+    let below = past-below (judged .judge-details .ensures .0 refl) (omega (arith, inside .left, start .pre .0 .3 .few)) in
     ((start .pre .0 .0, start .pre .0 .1, start .pre .0 .2), (start .pre .1 .0, below))
 
 headed : (c : tie.After-judge-header) (tables : Tables) → Indexed tables (start-of (details-of c) .args .slots .now)
@@ -73,7 +73,7 @@ settle-requires c κs =
     let judged = details-of (c .before .before) in
     let start = start-of judged in
     let some = start .pre .1 .1 in
-    entry-room (position start) refl (room-kept (judged .judge-details .ensures .1 (some .0) (some .1) .filled) (start .pre .0 .3))
+    entry-room (position start) refl (room-kept (judged .judge-details .ensures .1 (some .0) (some .1) .filled refl) (start .pre .0 .3))
 
 -- ---- its verdicts raised
 
@@ -81,13 +81,13 @@ sub-raise : tie.Need-sub-raise
 sub-raise c =
     let judged = details-of (head-of (settled-of c)) in
     let some = start-of judged .pre .1 .1 in
-    omega (arith, judged .judge-details .ensures .1 (some .0) (some .1) .filled .end)
+    omega (arith, judged .judge-details .ensures .1 (some .0) (some .1) .filled refl .end)
 
 part-raise-start : tie.Need-part-raise-start
 part-raise-start c =
     let judged = details-of (head-of (settled-of c)) in
     let some = start-of judged .pre .1 .1 in
-    omega (arith, judged .judge-details .ensures .1 (some .0) (some .1) .filled .end)
+    omega (arith, judged .judge-details .ensures .1 (some .0) (some .1) .filled refl .end)
 
 part-raise-end : tie.Need-part-raise-end
 part-raise-end c =
@@ -96,7 +96,7 @@ part-raise-end c =
     let judged = details-of head in
     let start = start-of judged in
     let some = start .pre .1 .1 in
-    let room = room-kept (judged .judge-details .ensures .1 (some .0) (some .1) .filled) (start .pre .0 .3) in
+    let room = room-kept (judged .judge-details .ensures .1 (some .0) (some .1) .filled refl) (start .pre .0 .3) in
     omega (arith, past judged .position .left, room .inV, kept-v (settled .settle .ensures _ (headed head (some .0) (some .1) .set)))
 
 whole : tie.Need-returns
