@@ -127,7 +127,7 @@ static u64 sum(const struct part *parts) {
 }
 
 /* The library under test. Packed: refusal number times 2^32 plus place, or
- * the number of records. */
+ * the number of records, or of the first transaction to look at. */
 #ifdef PROBE
 u64 probe_structure(const u8 *file, size len);
 u64 probe_groups(const u8 *file, size len);
@@ -167,6 +167,9 @@ u64 cwr_number(const u8 *file, size len, u8 *out, size out_len);
 u32 cwr_findings_count(u64 set);
 u32 cwr_findings_lowest(u64 set);
 u32 cwr_record_length(const u8 *record, size length);
+u64 cwr_first_rejected(u64 tolerance, const u8 *file, size file_len, const u8 *languages,
+                       size languages_len, const u8 *societies, size societies_len,
+                       const u8 *categories, size categories_len);
 
 /* Lends the file's records one by one; the lengths of their types go to the
  * first buffer. The records lie in one room in turn, each with its begin or its
@@ -210,6 +213,9 @@ static void call(u8 letter, u64 value, u64 guard, struct part *parts, u64 *answe
         answer[1] = cwr_findings_lowest(value);
     } else if (letter == 'r') {
         answer[0] = each_record(parts, guard);
+    } else if (letter == 'f') {
+        answer[0] = cwr_first_rejected(value, LENT(THE_FILE), LENT(LANGUAGES), LENT(SOCIETIES),
+                                       LENT(CATEGORIES));
     } else {
         exit(3);
     }

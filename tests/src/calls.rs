@@ -14,6 +14,7 @@
 
 use std::io::{self, Read, Write};
 
+use crate::reference::first::NO_TRANSACTION;
 use crate::reference::{self, findings, Answer, Tables};
 
 #[derive(Clone, Copy, Debug, PartialEq, Eq, PartialOrd, Ord)]
@@ -28,6 +29,8 @@ pub enum Call {
     Bits,
     /// The length that a record's type has.
     Record,
+    /// The first transaction with a TR or GR finding of its own.
+    First,
     /// Refusals 3 to 10 alone, with the numbers of groups and transactions.
     Structure,
     /// Numbering, with the numbers of groups and transactions.
@@ -45,12 +48,13 @@ pub enum Program {
 }
 
 impl Call {
-    pub const ALL: [Call; 8] = [
+    pub const ALL: [Call; 9] = [
         Call::Check,
         Call::Within,
         Call::Number,
         Call::Bits,
         Call::Record,
+        Call::First,
         Call::Structure,
         Call::Counted,
         Call::Listing,
@@ -63,6 +67,7 @@ impl Call {
             Call::Number => "number",
             Call::Bits => "bits",
             Call::Record => "record",
+            Call::First => "first",
             Call::Structure => "structure",
             Call::Counted => "counted",
             Call::Listing => "listing",
@@ -71,7 +76,7 @@ impl Call {
 
     pub fn program(self) -> Program {
         match self {
-            Call::Check | Call::Within | Call::Number | Call::Bits | Call::Record => {
+            Call::Check | Call::Within | Call::Number | Call::Bits | Call::Record | Call::First => {
                 Program::Driver
             }
             Call::Structure | Call::Counted => Program::Probe,
@@ -87,6 +92,7 @@ impl Call {
             Call::Number => b'n',
             Call::Bits => b'b',
             Call::Record => b'r',
+            Call::First => b'f',
             Call::Structure => b's',
             Call::Counted => b'k',
             Call::Listing => b'l',
@@ -95,6 +101,11 @@ impl Call {
 
     fn of_letter(letter: u8) -> Option<Call> {
         Call::ALL.into_iter().find(|call| call.letter() == letter)
+    }
+
+    /// Whether a file is lent to it, or its input is one.
+    pub fn takes_a_file(self) -> bool {
+        !matches!(self, Call::Bits | Call::Record)
     }
 
     /// Whether it judges records.
@@ -227,8 +238,8 @@ fn u32_of(bytes: &[u8]) -> u32 {
 /// What is answered to a request.
 #[derive(Clone, Debug, PartialEq, Eq)]
 pub struct Reply {
-    /// The packed answer; for `bits` the number of findings, for `record` that
-    /// of the records.
+    /// The packed answer, for `first` with the transaction where it passed; for
+    /// `bits` the number of findings, for `record` that of the records.
     pub packed: u64,
     /// Groups and transactions, 0 where refused or not asked for; for `bits`
     /// the lowest finding and 0.
@@ -301,6 +312,7 @@ impl Reply {
         let mut text = match (call, self.refusal()) {
             (Call::Bits, _) => format!("{} findings, lowest {first}", self.packed),
             (Call::Record, _) => format!("{} records", self.packed),
+            (Call::First, 0) => describe_first(self.packed),
             (Call::Structure | Call::Counted, 0) => format!(
                 "passed: {first} groups, {second} transactions, {} records",
                 self.packed
@@ -319,6 +331,14 @@ impl Reply {
             text += ", and what was lent for reading is changed";
         }
         text
+    }
+}
+
+/// The transaction that is answered by `first`, in words.
+pub fn describe_first(packed: u64) -> String {
+    match packed {
+        NO_TRANSACTION => "passed: no transaction".to_string(),
+        transaction => format!("passed: transaction {transaction}"),
     }
 }
 
@@ -354,6 +374,14 @@ pub fn expected(request: &Request) -> Reply {
                 changed: false,
                 buffers: [first, second],
             };
+        }
+        Call::First => {
+            return Reply {
+                packed: reference::first_rejected(request.number, file, &tables).packed(),
+                others: [0; 2],
+                changed: false,
+                buffers: [first, second],
+            }
         }
         Call::Listing => unreachable!("the listing is no request"),
     };

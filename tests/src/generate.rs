@@ -11,6 +11,7 @@ pub mod values;
 pub mod works;
 
 use crate::calls::{Call, Guard, Request};
+use crate::reference::lent::LARGEST_TOLERANCE;
 use damage::{Damage, Hand};
 use works::Lent;
 
@@ -106,6 +107,10 @@ impl Case {
     pub fn new(seed: u64, kind: String, file: Vec<u8>, calls: &[Call]) -> Case {
         let mut random = Random::new(seed);
         let mut calls = calls.to_vec();
+        // Of every file, one without a byte among them.
+        if calls.iter().any(|call| call.takes_a_file()) {
+            calls.push(Call::First);
+        }
         if !file.is_empty() {
             calls.push(Call::Record);
         }
@@ -131,6 +136,19 @@ impl Case {
             records: Vec::new(),
             file,
             calls,
+        }
+    }
+
+    /// The tolerance that a call has: the short form of the check none but
+    /// the largest, and `first` that of the check that stands beside it.
+    pub fn tolerance_of(&self, call: Call) -> u64 {
+        let short = match call {
+            Call::First => self.calls.contains(&Call::Check) && !self.calls.contains(&Call::Within),
+            call => call == Call::Check,
+        };
+        match short {
+            true => LARGEST_TOLERANCE,
+            false => self.tolerance,
         }
     }
 
@@ -163,6 +181,10 @@ impl Case {
                 }
                 request.tables = self.tables.clone();
                 request.buffers = [self.verdicts.clone(), self.findings.clone()];
+            }
+            Call::First => {
+                request.number = self.tolerance_of(Call::First);
+                request.tables = self.tables.clone();
             }
             Call::Number | Call::Counted => request.buffers[0] = self.out.clone(),
             _ => {}
@@ -267,7 +289,7 @@ pub fn case(seed: u64) -> Option<Case> {
 
 /// The calls that are compared for a file; not all of them for each.
 fn calls(kind: &Kind, file: &[u8], random: &mut Random) -> Vec<Call> {
-    let judged = matches!(kind, Kind::Works | Kind::Right);
+    let judged = matches!(kind, Kind::Works | Kind::Late | Kind::Right);
     let mut calls = vec![random.of(&[Call::Check, Call::Within])];
     for (call, times) in [
         (Call::Number, if judged { 6 } else { 2 }),
@@ -290,6 +312,8 @@ fn calls(kind: &Kind, file: &[u8], random: &mut Random) -> Vec<Call> {
 pub enum Kind {
     /// Works with few findings.
     Works,
+    /// Works of several groups, of which only late ones are rejected.
+    Late,
     /// Any types and any text.
     Right,
     /// Right but for its number positions.
@@ -301,6 +325,7 @@ impl Kind {
     pub fn name(&self) -> String {
         match self {
             Kind::Works => "works".to_string(),
+            Kind::Late => "late".to_string(),
             Kind::Right => "right".to_string(),
             Kind::Unnumbered => "right but for its numbers".to_string(),
             Kind::Damaged(damages) => {
@@ -316,7 +341,8 @@ pub fn kind(seed: u64) -> Kind {
     // Not the same numbers as the file's own.
     let mut random = Random::new(seed ^ 0x6B69_6E64_6B69_6E64);
     let damages = match random.below(100) {
-        0..=59 => return Kind::Works,
+        0..=51 => return Kind::Works,
+        52..=59 => return Kind::Late,
         60..=64 => return Kind::Right,
         65..=68 => return Kind::Unnumbered,
         69..=83 => 1,
@@ -329,17 +355,17 @@ pub fn kind(seed: u64) -> Kind {
 /// The file of a kind.
 pub fn file(kind: &Kind, lent: &Lent, random: &mut Random) -> Vec<u8> {
     let works = match kind {
-        Kind::Works => true,
+        Kind::Works | Kind::Late => true,
         Kind::Right => false,
         Kind::Unnumbered | Kind::Damaged(_) => random.one_in(2),
     };
-    let mut records = if works {
-        works::records(lent, random)
-    } else {
-        right::records(random)
+    let mut records = match (kind, works) {
+        (Kind::Late, _) => works::late(lent, random),
+        (_, true) => works::records(lent, random),
+        (_, false) => right::records(random),
     };
     match kind {
-        Kind::Works | Kind::Right => join(&records),
+        Kind::Works | Kind::Late | Kind::Right => join(&records),
         Kind::Unnumbered => {
             damage::unnumber(&mut records, random);
             join(&records)

@@ -4,4 +4,5 @@
 pub mod calls;
 pub mod driver;
 pub mod generate;
+pub mod read_off;
 pub mod reference;

@@ -109,6 +109,48 @@ pub unsafe extern "C" fn cwr_check(
 /// # Safety
 /// As above.
 #[no_mangle]
+#[allow(clippy::too_many_arguments)]
+pub unsafe extern "C" fn cwr_first_rejected(
+    tolerance: u64,
+    file: *const u8,
+    file_len: usize,
+    languages: *const u8,
+    languages_len: usize,
+    societies: *const u8,
+    societies_len: usize,
+    categories: *const u8,
+    categories_len: usize,
+) -> u64 {
+    let tables = Tables {
+        languages: from_raw_parts(languages, languages_len),
+        societies: from_raw_parts(societies, societies_len),
+        categories: from_raw_parts(categories, categories_len),
+    };
+    let first = reference::first_rejected(tolerance, from_raw_parts(file, file_len), &tables);
+    if fault("first-reads-after-file") {
+        look(file.add(file_len));
+    }
+    if fault("first-reads-before-file") {
+        look(file.sub(1));
+    }
+    if fault("first-reads-after-table") {
+        look(languages.add(languages_len));
+    }
+    if fault("first-reads-before-table") {
+        look(societies.sub(1));
+    }
+    if fault("first-changes-file") && file_len > 0 {
+        file.cast_mut().write_volatile(0);
+    }
+    if fault("first-changes-table") && categories_len > 0 {
+        categories.cast_mut().write_volatile(0);
+    }
+    first.packed()
+}
+
+/// # Safety
+/// As above.
+#[no_mangle]
 pub unsafe extern "C" fn cwr_number(
     file: *const u8,
     file_len: usize,

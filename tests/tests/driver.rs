@@ -69,7 +69,7 @@ fn no_difference() {
     for options in [&["--files", "1500"][..], &["--guard"]] {
         let (code, text) = compare(options, "");
         assert_eq!(code, Some(0), "{text}");
-        for call in ["within", "record", "counted"] {
+        for call in ["within", "record", "first", "counted"] {
             assert!(text.contains(&format!("\n{call} ")), "{text}");
         }
     }
@@ -88,6 +88,12 @@ fn faults_about_memory_are_found() {
         ("reads-before-record", "before", "SIGSEGV"),
         ("reads-three-bytes", "after", "SIGSEGV"),
         ("probe-reads-after-file", "after", "SIGSEGV"),
+        ("first-reads-after-file", "after", "SIGSEGV"),
+        ("first-reads-before-file", "before", "SIGSEGV"),
+        ("first-reads-after-table", "after", "SIGSEGV"),
+        ("first-reads-before-table", "before", "SIGSEGV"),
+        ("first-changes-file", "after", "is changed"),
+        ("first-changes-table", "after", "is changed"),
         ("changes-file", "after", "is changed"),
         ("changes-table", "after", "is changed"),
         ("changes-record", "after", "is changed"),

@@ -71,6 +71,7 @@ fn one_call_alone() {
         ("check", "bits-highest"),
         ("bits", "record-8-bits"),
         ("record", "refuses-everything"),
+        ("first", "writes-nothing"),
     ] {
         let options: Vec<_> = run.into_iter().chain([call]).collect();
         let (code, text) = compare(&options, &["--fault", fault], true);
@@ -81,6 +82,7 @@ fn one_call_alone() {
             "number",
             "bits",
             "record",
+            "first",
             "structure",
             "counted",
             "listing",
@@ -134,7 +136,7 @@ fn faults() -> Vec<String> {
 #[test]
 fn each_fault_is_found() {
     let (faults, next) = (faults(), AtomicUsize::new(0));
-    assert!(faults.len() > 150);
+    assert!(faults.len() > 250);
     // Each finding has one that begins with its number.
     for finding in 0..=46 {
         let own = |fault: &String| fault.starts_with(&format!("{finding}-"));
@@ -159,6 +161,10 @@ fn is_found(number: usize, fault: &str) {
     std::fs::create_dir_all(&found).expect("a directory");
     let listing = fault.starts_with("listing");
     let mut options = vec!["--workers", "1"];
+    // What is read off the findings of the check is compared without this.
+    if fault.starts_with("first: ") {
+        options.extend(["--only", "first"]);
+    }
     match fault {
         "hangs" => options.extend(["--wait", "2"]),
         _ if fault.ends_with(", large") => options.push("--limits"),
@@ -170,6 +176,8 @@ fn is_found(number: usize, fault: &str) {
     let (code, text) = compare_in(&found, &options, &mock, listing);
     assert_eq!(code, Some(1), "{fault}: {text}");
     assert!(text.starts_with("difference\n"), "{fault}: {text}");
+    let of_first = fault.starts_with("first") && fault != "first-transaction-only";
+    assert_eq!(of_first, entry(&text, "call") == "first", "{fault}: {text}");
     // The file that was written is the one whose seed is named.
     let written = std::fs::read(entry(&text, "file")).expect("the file");
     let seed = entry(&text, "seed");
@@ -186,6 +194,41 @@ fn is_found(number: usize, fault: &str) {
     }
     println!("{fault}: found, {} \"{}\"", entry(&text, "call"), made.kind);
     std::fs::remove_dir_all(&found).expect("the directory");
+}
+
+/// A difference of `first` tells what the library's own findings say.
+#[test]
+fn first_is_read_off_the_findings() {
+    for (fault, right, wrong) in [
+        ("first-last", "passed: transaction ", "passed: transaction "),
+        (
+            "first-within-its-group",
+            "passed: transaction ",
+            "passed: transaction ",
+        ),
+        (
+            "first-none-0",
+            "passed: no transaction",
+            "passed: transaction 0",
+        ),
+        (
+            "first-with-fr",
+            "passed: no transaction",
+            "passed: transaction ",
+        ),
+    ] {
+        let (code, text) = compare(&[], &["--fault", fault], false);
+        assert_eq!(code, Some(1), "{fault}: {text}");
+        let [reference, read_off, library] =
+            ["reference", "read off", "library"].map(|name| entry(&text, name));
+        assert_eq!(reference, read_off, "{text}");
+        assert!(reference.starts_with(right), "{text}");
+        assert!(library.starts_with(wrong) && library != reference, "{text}");
+        // Without the check there is nothing to read.
+        let (code, text) = compare(&["--only", "first"], &["--fault", fault], false);
+        assert_eq!(code, Some(1), "{fault}: {text}");
+        assert!(!text.contains("read off"), "{text}");
+    }
 }
 
 #[test]

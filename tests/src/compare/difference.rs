@@ -2,7 +2,7 @@
 
 use std::fmt::Write;
 
-use tests::calls::{Call, Guard, Reply, Request};
+use tests::calls::{describe_first, Call, Guard, Reply, Request};
 use tests::generate::Case;
 
 /// What all differences tell: the call, the file and how to have it again.
@@ -26,12 +26,14 @@ pub fn head(case: &Case, call: Call, guard: Guard) -> String {
     text
 }
 
-/// Of two replies, or of a reply and no reply.
+/// Of two replies, or of a reply and no reply; or of a reply and what is read
+/// off the findings of the library's own check.
 pub fn of_replies(
     case: &Case,
     request: &Request,
     reference: &Reply,
     library: &Result<Reply, String>,
+    read_off: Option<u64>,
 ) -> String {
     let call = request.call;
     let mut text = head(case, call, request.guard);
@@ -40,8 +42,8 @@ pub fn of_replies(
     };
     match call {
         Call::Bits => add("set", &format!("{:#x}", request.number)),
-        Call::Check | Call::Within => {
-            if call == Call::Within {
+        Call::Check | Call::Within | Call::First => {
+            if call != Call::Check {
                 add("tolerance", &request.number.to_string());
             }
             for (name, table) in ["languages", "societies", "categories"]
@@ -63,6 +65,9 @@ pub fn of_replies(
         }
     }
     add("reference", &reference.describe(call));
+    if let Some(answer) = read_off {
+        add("read off", &describe_first(answer));
+    }
     let library = match library {
         Err(how) => {
             add("library", how);

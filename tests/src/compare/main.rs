@@ -11,9 +11,10 @@ use std::sync::Mutex;
 
 use options::Options;
 use tally::{Tally, TOO_LONG};
-use tests::calls::{expected, Call, Guard, Program};
+use tests::calls::{expected, Call, Guard, Program, Reply};
 use tests::driver::{list, Driver};
 use tests::generate::{case, limits, seeds, spread, Case};
+use tests::read_off::first_rejected;
 use tests::reference;
 
 /// Why a run, or a part of it, ended early.
@@ -101,11 +102,20 @@ fn work(
             .filter(|call| options.asked(**call))
             .collect();
         tally.files += u64::from(!calls.is_empty());
+        // What the library has written in a check, for what can be read off it.
+        let mut checked = None;
         for &call in calls {
-            match call.program() {
-                Program::Listing => compare_listing(options, &case, tally)?,
-                Program::Driver => compare_call(options, &case, call, &mut drivers[0], tally)?,
-                Program::Probe => compare_call(options, &case, call, &mut drivers[1], tally)?,
+            let driver = match call.program() {
+                Program::Listing => {
+                    compare_listing(options, &case, tally)?;
+                    continue;
+                }
+                Program::Driver => &mut drivers[0],
+                Program::Probe => &mut drivers[1],
+            };
+            let reply = compare_call(options, &case, call, driver, checked.as_ref(), tally)?;
+            if call.is_check() && case.tolerance_of(call) == case.tolerance_of(Call::First) {
+                checked = Some(reply);
             }
         }
     }
@@ -117,13 +127,17 @@ fn work(
     Ok(())
 }
 
+/// The library's reply, which is the reference's; with a guard, the last. What
+/// `first` answers is compared with the findings of the library's own check too,
+/// where that was asked before.
 fn compare_call(
     options: &Options,
     case: &Case,
     call: Call,
     driver: &mut Option<Driver>,
+    checked: Option<&Reply>,
     tally: &mut Tally,
-) -> Result<(), Stop> {
+) -> Result<Reply, Stop> {
     let driver = driver.as_mut().expect("asked only where there is a driver");
     let guards: &[Guard] = match options.guard {
         true => &[Guard::After, Guard::Before],
@@ -131,11 +145,16 @@ fn compare_call(
     };
     let mut request = case.request(call, guards[0]);
     let reference = expected(&request);
+    let read_off = match call {
+        Call::First => checked.and_then(|checked| first_rejected(&case.file, checked)),
+        _ => None,
+    };
     for &guard in guards {
         request.guard = guard;
         let library = driver.ask(&request);
-        if library.as_ref() != Ok(&reference) {
-            let text = difference::of_replies(case, &request, &reference, &library);
+        let as_read = |reply: &Reply| read_off.is_none_or(|answer| answer == reply.packed);
+        if library.as_ref() != Ok(&reference) || !library.as_ref().is_ok_and(as_read) {
+            let text = difference::of_replies(case, &request, &reference, &library, read_off);
             return Err(Stop::Difference(text));
         }
     }
@@ -148,7 +167,8 @@ fn compare_call(
         );
     }
     tally.reply(&request, &reference);
-    Ok(())
+    tally.read_off += u64::from(read_off.is_some());
+    Ok(reference)
 }
 
 fn compare_listing(options: &Options, case: &Case, tally: &mut Tally) -> Result<(), Stop> {

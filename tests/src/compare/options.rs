@@ -17,7 +17,7 @@ compare [--files N] [--seed S] [--one SEED] [--limits] [--only CALL] [--guard]
   --seed S        other files (0; below 2^32)
   --one SEED      only the file of this seed, as a difference names it
   --limits        only the files at the limits
-  --only CALL     one call alone: check, within, number, bits, record,
+  --only CALL     one call alone: check, within, number, bits, record, first,
                   structure, counted or listing
   --guard         everything that is lent lies directly before a page that
                   cannot be used, and once more directly after one

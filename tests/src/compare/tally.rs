@@ -3,6 +3,7 @@
 use std::collections::BTreeMap;
 
 use tests::calls::{Call, Reply, Request};
+use tests::reference::first::NO_TRANSACTION;
 
 use crate::options::Options;
 
@@ -11,6 +12,12 @@ pub const TOO_LONG: u64 = 99;
 
 /// That of `record` for an unknown type; 0 for a known one.
 const NO_LENGTH: u64 = 98;
+
+/// Those of `first` besides 0, transaction 0: none, a later one of the first
+/// group, and one of a later group.
+const NONE: u64 = 97;
+const LATER: u64 = 96;
+const LATER_GROUP: u64 = 95;
 
 const FINDINGS: usize = 47;
 
@@ -24,6 +31,8 @@ pub struct Tally {
     verdicts: [u64; 5],
     /// Files that were compared.
     pub files: u64,
+    /// Answers of `first` that were compared with the library's own findings.
+    pub read_off: u64,
 }
 
 impl Tally {
@@ -52,6 +61,9 @@ impl Tally {
                 }
             }
             return;
+        }
+        if call == Call::First && reply.refusal() == 0 {
+            return self.answer(call, answer_of_first(&request.file, reply.packed));
         }
         self.answer(call, reply.refusal());
         if !call.is_check() || reply.refusal() != 0 {
@@ -85,6 +97,7 @@ impl Tally {
             *count += more;
         }
         self.files += other.files;
+        self.read_off += other.read_off;
     }
 
     /// Prints the numbers; false where one is less than it should be.
@@ -106,10 +119,15 @@ impl Tally {
                 continue;
             }
             // Refusals in their order, then passed.
-            for answer in (1..=11).chain([TOO_LONG, NO_LENGTH, 0]) {
+            let others = [TOO_LONG, NO_LENGTH, NONE, 0, LATER, LATER_GROUP];
+            for answer in (1..=11).chain(others) {
                 let number = self.answers.get(&(call, answer)).copied().unwrap_or(0);
                 let words = match answer {
                     0 if call == Call::Record => "length".to_string(),
+                    0 if call == Call::First => "at 0".to_string(),
+                    NONE => "none".to_string(),
+                    LATER => "later".to_string(),
+                    LATER_GROUP => "later group".to_string(),
                     0 => "passed".to_string(),
                     NO_LENGTH => "no length".to_string(),
                     TOO_LONG => "too long".to_string(),
@@ -118,6 +136,11 @@ impl Tally {
                 let words = format!("{:9} {words}", call.name());
                 line(&words, &[number], least_answer(call, answer));
             }
+        }
+        if options.asked(Call::First) {
+            let both = options.asked(Call::Check) && options.asked(Call::Within);
+            let least = if both { 8000 } else { 0 };
+            line("first     as findings", &[self.read_off], least);
         }
         if !options.asked(Call::Check) && !options.asked(Call::Within) {
             return enough;
@@ -137,6 +160,19 @@ impl Tally {
     }
 }
 
+/// Which of its answers `first` gave for a file that passed.
+fn answer_of_first(file: &[u8], transaction: u64) -> u64 {
+    let names = file.split(|&byte| byte == b'\n').map(|line| &line[..3]);
+    let first_group = names.take_while(|name| name != b"GRT");
+    let headers = first_group.filter(|name| matches!(*name, b"NWR" | b"REV"));
+    match transaction {
+        NO_TRANSACTION => NONE,
+        0 => 0,
+        _ if transaction < headers.count() as u64 => LATER,
+        _ => LATER_GROUP,
+    }
+}
+
 /// How many files must have had an answer in a default run.
 fn least_answer(call: Call, answer: u64) -> u64 {
     match (call, answer) {
@@ -149,16 +185,19 @@ fn least_answer(call: Call, answer: u64) -> u64 {
         (Call::Record, 0) => 15_000,
         (Call::Record, NO_LENGTH) => 1000,
         (Call::Record, _) | (_, NO_LENGTH) => 0,
+        (Call::First, 0 | NONE | LATER | LATER_GROUP) => 500,
+        (_, NONE | LATER | LATER_GROUP) => 0,
         (Call::Within, 1) => 200,
+        (Call::First, 1) => 200,
         (_, 1) => 0,
-        (Call::Check | Call::Within, 2) => 200,
+        (Call::Check | Call::Within | Call::First, 2) => 200,
         (_, 2) => 0,
-        (Call::Within, 3 | 5) | (Call::Number, 3 | 5) => 1,
+        (Call::Within | Call::First, 3 | 5) | (Call::Number, 3 | 5) => 1,
         (_, 3 | 5) => 0,
         (Call::Counted, 0 | 4 | 6 | 7 | 10 | 11) => 50,
         (_, 0 | 4 | 6) => 300,
         (_, 7) => 200,
-        (Call::Check | Call::Within | Call::Structure, 8..=10) => 200,
+        (Call::Check | Call::Within | Call::First | Call::Structure, 8..=10) => 200,
         (Call::Check | Call::Within, 11) => 200,
         (Call::Number, 10 | 11) => 200,
         _ => 0,

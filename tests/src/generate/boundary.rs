@@ -2,7 +2,7 @@
 //! those that show a fault soonest come first.
 
 use super::damage::unnumber;
-use super::right::{blank, detail, header, named, put, write};
+use super::right::{blank, detail, header, named, number as number_all, put, write};
 use super::{join, works, Case, Random};
 use crate::calls::Call;
 use crate::reference::lines::{LARGEST_FILE, MOST_RECORDS};
@@ -218,6 +218,29 @@ const BOUNDARIES: &[Boundary] = &[
         "right, 131,072 records, buffers longer",
         Calls::Buffers(3, 5),
         |random| join(&of_records(MOST_RECORDS, random)),
+    ),
+    // More transactions than fifteen bits count.
+    (
+        "37,785 transactions, the last rejected",
+        Calls::Check,
+        |_| {
+            let mut works = vec![works::plain_work(); 37_785];
+            put(&mut works[37_784][1], 29, " ");
+            join(&works::file("NWR", works))
+        },
+    ),
+    (
+        "32,703 groups, the last header of another type",
+        Calls::Check,
+        |_| {
+            let group = &works::file("NWR", vec![works::plain_work()])[1..5];
+            let mut records = works::file("NWR", Vec::new());
+            records.splice(1..3, std::iter::repeat_n(group, 32_703).flatten().cloned());
+            let header = records.len() - 4;
+            put(&mut records[header], 1, "REV");
+            number_all(&mut records);
+            join(&records)
+        },
     ),
 ];
 

@@ -316,7 +316,8 @@ fn publisher(work: &mut Records, random: &mut Random) {
     work.insert(at, new);
 }
 
-fn header_type(work: &mut Records, random: &mut Random) {
+/// Another type of header, or the same.
+pub fn header_type(work: &mut Records, random: &mut Random) {
     put(&mut work[0], 1, random.of(&["NWR", "REV"]));
 }
 

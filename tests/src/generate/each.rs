@@ -3,6 +3,7 @@
 //! seeds are their numbers here, counted from `FIRST`.
 
 mod judged;
+mod late;
 mod lending;
 mod single;
 
@@ -30,6 +31,7 @@ fn all() -> &'static [Case] {
     ALL.get_or_init(|| {
         let mut all = Vec::new();
         judged::all(&mut all);
+        late::all(&mut all);
         lending::all(&mut all);
         types(&mut all);
         steps(&mut all);

@@ -5,6 +5,8 @@ use std::collections::{HashMap, HashSet};
 use super::damage::{all, FAMILIES};
 use super::*;
 use crate::calls::expected;
+use crate::read_off::{transactions, REJECTING};
+use crate::reference::first::NO_TRANSACTION;
 use crate::reference::types::{find, Class, TYPES};
 use crate::reference::{listing, numbering, structure, Answer};
 
@@ -204,7 +206,7 @@ fn promises_of_numbering() {
 #[test]
 fn boundary_answers() {
     // The refusals of the calls that judge a file, in their order, 0 for passed.
-    let expected_answers: [&[u64]; 34] = [
+    let expected_answers: [&[u64]; 36] = [
         &[3, 3],
         &[6, 6],
         &[5, 5],
@@ -239,19 +241,33 @@ fn boundary_answers() {
         &[11],
         &[11],
         &[0],
+        &[0],
+        &[0],
     ];
     assert_eq!(boundary::number(), expected_answers.len() as u64);
     for (seed, refusals) in expected_answers.into_iter().enumerate() {
         let case = case(seed as u64).unwrap();
         let answer = |&call| expected(&case.request(call, Guard::None)).refusal();
-        let (record, judging) = case.calls.split_last().unwrap();
+        let (judging, others) = case.calls.split_at(case.calls.len() - 2);
         let answers: Vec<_> = judging.iter().map(answer).collect();
         assert_eq!(
-            (answers.as_slice(), *record),
-            (refusals, Call::Record),
+            (answers.as_slice(), others),
+            (refusals, &[Call::First, Call::Record][..]),
             "{}",
             case.kind
         );
+        // As the check, but that no room is needed; numbering looks at less.
+        let first = answer(&Call::First);
+        match (judging[0], refusals[0]) {
+            (_, 11) => assert_eq!(first, 0),
+            (Call::Number, 0) => assert_eq!(first, 8),
+            (_, refusal) => assert_eq!(first, refusal),
+        }
+    }
+    // The last transaction of so many.
+    for (seed, transaction) in [(34, 37_784), (35, 32_702)] {
+        let request = case(seed).unwrap().request(Call::First, Guard::None);
+        assert_eq!(expected(&request).packed, transaction);
     }
     assert!(case(boundary::number()).is_none());
     assert!(case(each::FIRST + each::number()).is_none());
@@ -273,8 +289,9 @@ fn two_faults() {
         Call::Counted,
     ];
     assert_eq!(calls.map(answered), [0x6_0000_0009; 5]);
+    assert_eq!(answered(Call::First), 0x6_0000_0009);
     assert_eq!(listing(&case.file), b"REFUSED 6 9\n");
-    let others = [Call::Listing, Call::Record];
+    let others = [Call::Listing, Call::First, Call::Record];
     assert_eq!(case.calls, [&calls[..], &others].concat());
 }
 
@@ -417,6 +434,199 @@ fn records_of_every_kind() {
     ] {
         assert_eq!(texts(file), records);
     }
+}
+
+/// Every file is asked for its first work to look at, with the tolerance of its
+/// check.
+#[test]
+fn first_of_every_file() {
+    for seed in spread(4, 4000) {
+        let case = case(seed).unwrap();
+        let asked = case.calls.contains(&Call::First);
+        let only_bits_or_records =
+            |call: &Call| matches!(call, Call::Bits | Call::First | Call::Record);
+        let aside = case.file.is_empty() && case.calls.iter().all(only_bits_or_records);
+        assert_eq!(asked, !aside, "{}", case.kind);
+        let request = case.request(Call::First, Guard::None);
+        assert_eq!(request.buffers, [vec![], vec![]]);
+        assert_eq!((&request.file, &request.tables), (&case.file, &case.tables));
+        let check = case.calls.iter().rfind(|call| call.is_check());
+        match check {
+            Some(Call::Check) => assert_eq!(request.number, 6),
+            _ => assert_eq!(request.number, case.tolerance),
+        }
+    }
+}
+
+/// What `first` answers in a default run: every kind of answer, for every
+/// finding, and with everything before it that could be taken for it.
+#[test]
+fn first_answers_of_a_run() {
+    let mut answers: HashMap<&str, u32> = HashMap::new();
+    // Files whose answer would be another without the finding; or with it,
+    // where it is of a lesser level.
+    let mut decided = [0; 47];
+    let rejecting: u64 = REJECTING.iter().map(|finding| 1 << finding).sum();
+    for seed in seeds(0, 20_000) {
+        if seed < each::FIRST {
+            continue;
+        }
+        let case = case(seed).unwrap();
+        if !case.calls.contains(&Call::First) {
+            continue;
+        }
+        let mut count = |words| *answers.entry(words).or_default() += 1;
+        let mut request = case.request(Call::First, Guard::None);
+        let first = expected(&request);
+        if first.refusal() != 0 {
+            count("refused");
+            continue;
+        }
+        let check = case.calls.iter().rfind(|call| call.is_check());
+        let refusal = |&call: &Call| expected(&case.request(call, Guard::None)).refusal();
+        if check.map(refusal) == Some(11) {
+            count("no room for the check");
+        }
+        // All findings, with room enough.
+        let lines = crate::reference::lines::lines(&case.file);
+        request.call = Call::Within;
+        request.buffers = [vec![0; lines.len()], vec![0; 8 * lines.len()]];
+        let checked = expected(&request);
+        let sets = transactions(&case.file, &checked);
+        let position = |taken: u64| sets.iter().position(|set| set & taken != 0);
+        let named = position(rejecting);
+        for (finding, files) in decided.iter_mut().enumerate() {
+            *files += u32::from(position(rejecting ^ 1 << finding) != named);
+        }
+        let classes: Vec<_> = lines.iter().map(|l| find(l.text).unwrap().class).collect();
+        let headers: Vec<_> = (0..lines.len())
+            .filter(|&at| classes[at] == Class::Header)
+            .collect();
+        let Some(named) = named else {
+            count("none");
+            count(match sets.iter().all(|&set| set == 0) {
+                true => "none, and no finding at all",
+                false => "none, but lesser findings",
+            });
+            continue;
+        };
+        assert_eq!(first.packed, named as u64);
+        let begin = headers[named];
+        let group = classes[..begin].iter().rposition(|&c| c == Class::Grh);
+        let group = group.unwrap();
+        match (named, group) {
+            (0, _) => count("transaction 0"),
+            (_, 1) => count("a later one"),
+            _ => count("a later one in a later group"),
+        }
+        if sets[..named].iter().any(|&set| set != 0) {
+            count("lesser findings before");
+        }
+        if sets[named + 1..].iter().any(|set| set & rejecting != 0) {
+            count("others after");
+        }
+        let details = classes[begin + 1..]
+            .iter()
+            .take_while(|&&c| c == Class::Detail);
+        let details = begin + 1..begin + 1 + details.count();
+        let of_details = details.fold(0, |sum, record| sum | checked.set(record));
+        match (checked.set(begin) & rejecting, of_details & rejecting) {
+            (1, 0) => count("by its type alone"),
+            (_, 0) => count("by its header alone"),
+            (0, _) => count("by a detail alone"),
+            _ => count("by both"),
+        }
+        // Rejected by the verdict, and before it.
+        let verdicts = &checked.buffers[0];
+        if headers[..named].iter().any(|&at| verdicts[at] >= 3) {
+            count("after one that falls with its group");
+        }
+    }
+    for (words, least) in [
+        ("refused", 5000),
+        ("no room for the check", 500),
+        ("none", 1000),
+        ("none, and no finding at all", 500),
+        ("none, but lesser findings", 500),
+        ("transaction 0", 1000),
+        ("a later one", 500),
+        ("a later one in a later group", 500),
+        ("lesser findings before", 300),
+        ("others after", 300),
+        ("by its type alone", 100),
+        ("by its header alone", 1000),
+        ("by a detail alone", 500),
+        ("by both", 500),
+        ("after one that falls with its group", 50),
+    ] {
+        let files = answers.remove(words).unwrap_or(0);
+        println!("{words}: {files}");
+        assert!(files >= least, "{words}: {files}");
+    }
+    assert!(answers.is_empty(), "{answers:?}");
+    println!("decided: {decided:?}");
+    // 4 never comes without 5.
+    assert_eq!(decided[4], 0);
+    decided[4] = decided[5];
+    assert!(decided.iter().all(|&files| files >= 12), "{decided:?}");
+}
+
+/// The files about it by hand: where the kind says so, that one is named.
+#[test]
+fn late_files() {
+    let mut number = 0;
+    for case in (each::FIRST..each::FIRST + each::number()).filter_map(case) {
+        let Some(words) = case.kind.strip_prefix("each late: ") else {
+            continue;
+        };
+        number += 1;
+        let reply = expected(&case.request(Call::First, Guard::None));
+        let words: Vec<_> = words.split(", ").collect();
+        let at = |words: &[&str]| words.last().unwrap().parse().unwrap();
+        let accepted = |words: &str| !words.contains("TR") && words != "GR";
+        let expected = match words[..] {
+            ["none"] => NO_TRANSACTION,
+            [finding, at] if finding.starts_with("finding ") => {
+                let finding: u32 = finding["finding ".len()..].parse().unwrap();
+                let mut request = case.request(Call::Within, Guard::None);
+                request.number = 6;
+                let sets = transactions(&case.file, &expected(&request));
+                // That finding alone in that one alone.
+                let at: usize = at.parse().unwrap();
+                let set = |place| u64::from(place == at) << finding;
+                assert!((0..8).map(set).eq(sets), "{}", case.kind);
+                match REJECTING.contains(&finding) {
+                    true => at as u64,
+                    false => NO_TRANSACTION,
+                }
+            }
+            [buffers] if buffers.starts_with("buffers") => 4,
+            [form, at, then, later] if then.starts_with("then ") => match accepted(form) {
+                true => later.parse().unwrap(),
+                false => at.parse().unwrap(),
+            },
+            [tolerance, short] if tolerance.starts_with("tolerance ") => {
+                let tolerance: u64 = tolerance["tolerance ".len()..].parse().unwrap();
+                let short: u64 = short[..1].parse().unwrap();
+                match tolerance {
+                    7 => 1 << 32,
+                    _ if short > tolerance => 2,
+                    _ => NO_TRANSACTION,
+                }
+            }
+            [_, refused, ..] if refused.starts_with("refused ") => {
+                let refusal = refused["refused ".len()..].parse::<u64>().unwrap();
+                assert_eq!(reply.refusal(), refusal, "{}", case.kind);
+                reply.packed
+            }
+            [groups, _, _] if groups.ends_with(" groups") => at(&words),
+            [form, _] if accepted(form) => NO_TRANSACTION,
+            [_, _] => at(&words),
+            _ => panic!("{}", case.kind),
+        };
+        assert_eq!(reply.packed, expected, "{}", case.kind);
+    }
+    assert!(number > 700, "{number}");
 }
 
 #[test]

@@ -1,8 +1,14 @@
 //! Works: transactions with few findings or none.
 
+use std::cmp::Ordering;
+
 use super::right::{detail, named, number, plain, put, put_bytes};
 use super::values::{right_iswc, writable, DESIGNATIONS};
 use super::{changes, Random};
+use crate::reference::lines::Line;
+use crate::reference::types::find;
+use crate::reference::verdicts::level;
+use crate::reference::{findings, Tables};
 
 pub type Records = Vec<Vec<u8>>;
 
@@ -54,6 +60,98 @@ pub fn records(lent: &Lent, random: &mut Random) -> Records {
     records.push(plain(named("TRL")));
     number(&mut records);
     records
+}
+
+/// The records of a file of several groups in which no transaction is rejected
+/// but from a late one on, or none at all. Those before it may have findings
+/// that reject less.
+pub fn late(lent: &Lent, random: &mut Random) -> Records {
+    let groups: Vec<usize> = (0..random.between(2, 4))
+        .map(|_| random.between(1, 4))
+        .collect();
+    let all = groups.iter().sum();
+    let rejected = match random.below(8) {
+        0 => all,
+        _ => random.between(1, all - 1),
+    };
+    let mut records = vec![of("HDR", &[(102, "2.2001")])];
+    let mut transaction = 0;
+    for transactions in groups {
+        let kind = random.of(&["NWR", "REV"]);
+        records.push(of("GRH", &[(4, kind)]));
+        for _ in 0..transactions {
+            records.extend(match transaction.cmp(&rejected) {
+                Ordering::Less => accepted(kind, lent, random),
+                Ordering::Equal => self::rejected(kind, lent, random),
+                Ordering::Greater => changed(kind, lent, random),
+            });
+            transaction += 1;
+        }
+        records.push(of("GRT", &[]));
+    }
+    records.push(of("TRL", &[]));
+    number(&mut records);
+    records
+}
+
+/// A work with few changes or none.
+fn changed(kind: &str, lent: &Lent, random: &mut Random) -> Records {
+    let mut work = right(kind, lent, random);
+    for _ in 0..random.of(&[0, 1, 1, 2]) {
+        changes::change(&mut work, lent, random);
+    }
+    work
+}
+
+/// One without a TR or GR finding, where the tables allow it.
+fn accepted(kind: &str, lent: &Lent, random: &mut Random) -> Records {
+    let mut work = changed(kind, lent, random);
+    for _ in 0..20 {
+        if rejecting(kind, &work, lent) == 0 {
+            break;
+        }
+        work = changed(kind, lent, random);
+    }
+    work
+}
+
+/// One with one such finding, or else with some.
+fn rejected(kind: &str, lent: &Lent, random: &mut Random) -> Records {
+    let mut best = plain_work();
+    best.truncate(1);
+    for _ in 0..20 {
+        let mut work = changed(kind, lent, random);
+        if random.one_in(12) {
+            changes::header_type(&mut work, random);
+        }
+        match rejecting(kind, &work, lent) {
+            0 => {}
+            1 => return work,
+            _ => best = work,
+        }
+    }
+    best
+}
+
+/// How many TR and GR findings a work's records have in a group of this type.
+fn rejecting(kind: &str, work: &Records, lent: &Lent) -> usize {
+    let mut records = vec![of("GRH", &[(4, kind)])];
+    records.extend_from_slice(work);
+    let line = |text: &Vec<u8>| find(text).expect("a known type").class;
+    let classes: Vec<_> = records.iter().map(line).collect();
+    let lines: Vec<_> = records.iter().map(|text| Line { at: 0, text }).collect();
+    let [languages, societies, categories] = lent.tables;
+    let tables = Tables {
+        languages,
+        societies,
+        categories,
+    };
+    let sets = findings::sets(&lines, &classes, tables, lent.tolerance);
+    let of_set = |set: &u64| {
+        let held = (0..64).filter(|finding| set >> finding & 1 == 1);
+        held.filter(|&finding| level(finding) >= 3).count()
+    };
+    sets.iter().map(of_set).sum()
 }
 
 /// The records of a file with one group of these works.

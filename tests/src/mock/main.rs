@@ -6,6 +6,7 @@
 
 mod asked;
 mod findings;
+mod first;
 mod lending;
 mod listing;
 mod record;
@@ -31,7 +32,11 @@ fn faults() -> impl Iterator<Item = &'static Fault> {
         .chain(lending::FAULTS)
         .chain(findings::FAULTS)
         .chain(record::FAULTS)
+        .chain(first::FAULTS)
 }
+
+/// A fault of another call that `first` has is named so.
+const IN_FIRST: &str = "first: ";
 
 fn main() -> io::Result<()> {
     let arguments: Vec<String> = std::env::args().skip(1).collect();
@@ -46,6 +51,9 @@ fn main() -> io::Result<()> {
             for (name, _) in faults() {
                 println!("{name}");
             }
+            for name in first::SHARED {
+                println!("{IN_FIRST}{name}");
+            }
             for (name, _) in listing::FAULTS {
                 println!("{name}");
             }
@@ -53,6 +61,10 @@ fn main() -> io::Result<()> {
         }
         ["--fault", name] => name,
         _ => usage(),
+    };
+    let (in_first, wanted) = match wanted.strip_prefix(IN_FIRST) {
+        Some(shared) => (true, shared),
+        None => (false, wanted),
     };
     let fault = faults().find(|(name, _)| *name == wanted);
     let listing_fault = listing::FAULTS.iter().find(|(name, _)| *name == wanted);
@@ -73,8 +85,8 @@ fn main() -> io::Result<()> {
     while let Some(request) = read_request(&mut input)? {
         let asked = Asked(request);
         let reply = match fault {
-            // The faults of `record` are of no other call, nor others of it.
-            Some((name, fault)) if of_record(name) == (asked.call == Call::Record) => fault(&asked),
+            Some((_, fault)) if in_first && asked.call == Call::First => fault(&asked),
+            Some((name, fault)) if !in_first && concerns(name, asked.call) => fault(&asked),
             _ => asked.right(),
         };
         write_reply(&mut output, &reply)?;
@@ -82,10 +94,15 @@ fn main() -> io::Result<()> {
     Ok(())
 }
 
-fn of_record(name: &str) -> bool {
-    record::FAULTS
-        .iter()
-        .any(|(of_record, _)| *of_record == name)
+/// The faults of `record` and of `first` are of no other call, nor others of
+/// them.
+fn concerns(name: &str, call: Call) -> bool {
+    let among = |faults: &[Fault]| faults.iter().any(|(fault, _)| *fault == name);
+    match call {
+        Call::Record => among(record::FAULTS),
+        Call::First => among(first::FAULTS),
+        _ => !among(record::FAULTS) && !among(first::FAULTS),
+    }
 }
 
 fn usage() -> ! {

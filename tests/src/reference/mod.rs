@@ -3,6 +3,7 @@
 
 pub mod check;
 pub mod findings;
+pub mod first;
 pub mod lent;
 pub mod lines;
 pub mod listing;
@@ -14,6 +15,7 @@ pub mod values;
 pub mod verdicts;
 
 pub use check::{check, check_short};
+pub use first::{first_rejected, First};
 pub use lent::Tables;
 pub use listing::listing;
 pub use numbering::numbering;

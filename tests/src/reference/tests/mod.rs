@@ -1,6 +1,7 @@
 //! Expectations made by hand from the scope and its readings.
 
 mod findings;
+mod first;
 mod lent;
 mod listing;
 mod order;
