@@ -82,13 +82,13 @@ void html_work(struct out *out, const struct run *run, const struct judged *judg
     say(out, "<article class=\"work\" data-level=\"%zu\" data-file=\"", level);
     html_name(out, judged->name);
     say(out, "\">\n<div class=\"head\"><h3>");
-    html_text(out, work_title(judged, work));
+    html_text(out, header_title(work_header(judged, work)));
     say(out, "</h3> <span class=\"mark %s\">", level > 0 ? level_name(level) : "s0");
     say_verdict(out, work);
     say(out, "</span></div>\n<p class=\"quiet\">work <code>");
-    html_text(out, work_number(judged, work));
+    html_text(out, header_number(work_header(judged, work)));
     say(out, "</code>, ");
-    html_text(out, text_field(judged->check.records[work->header], 1, 3));
+    html_text(out, text_field(work_header(judged, work), 1, 3));
     say(out, ", lines %zu to %zu, group %zu, transaction %zu</p>\n", work->header + 1, work->end, work->group, work->transaction);
     say(out, "<div class=\"shares\">\n");
     for (size_t right = 0; right < RIGHTS; right++)

@@ -56,7 +56,7 @@ static void print_found(struct json *json, const struct run *run, const struct j
     json_number(json, "line", found->record + 1);
     json_number(json, "column", found_column(judged, found));
     json_text(json, "type", text_field(judged->check.records[found->record], 1, 3));
-    json_text(json, "work", work_number(judged, work));
+    json_text(json, "work", header_number(work_header(judged, work)));
     json_words(json, "level", found->words ? level_name(found->words->level) : NULL);
     json_number(json, "finding", found->number);
     json_words(json, "edit", found->words ? found->words->edit : NULL);
@@ -71,17 +71,22 @@ static void print_found(struct json *json, const struct run *run, const struct j
 
 /* ---- works */
 
+/* What a clerk knows a work by, and where it stands in the file's own numbers. */
+static void print_header(struct json *json, struct bytes header, size_t group, size_t transaction) {
+    json_text(json, "type", text_field(header, 1, 3));
+    json_text(json, "work", header_number(header));
+    json_text(json, "title", header_title(header));
+    json_number(json, "group", group);
+    json_number(json, "transaction", transaction);
+}
+
 static void print_work(struct json *json, const struct run *run, const struct judged *judged, const struct work *work) {
     json_object(json, NULL);
     json_words(json, "kind", "work");
     json_name(json, "file", judged->name);
     json_number(json, "line", work->header + 1);
     json_number(json, "last_line", work->end);
-    json_text(json, "type", text_field(judged->check.records[work->header], 1, 3));
-    json_text(json, "work", work_number(judged, work));
-    json_text(json, "title", work_title(judged, work));
-    json_number(json, "group", work->group);
-    json_number(json, "transaction", work->transaction);
+    print_header(json, work_header(judged, work), work->group, work->transaction);
     json_words(json, "verdict", verdict_of_work(work->verdict));
     json_truth(json, "falls_alone", work->falls_alone);
     json_end_line(json);
@@ -128,7 +133,8 @@ static void print_refused(struct json *json, const struct refused *refused) {
     json_end_object(json);
 }
 
-static void print_file_object(struct json *json, const struct judged *judged) {
+/* What every file object begins with. */
+static void begin_file(struct json *json, const struct judged *judged) {
     json_object(json, NULL);
     json_words(json, "kind", "file");
     json_name(json, "file", judged->name);
@@ -138,6 +144,10 @@ static void print_file_object(struct json *json, const struct judged *judged) {
         json_name(json, "why", judged->why.words);
     if (judged->outcome == OUTCOME_REFUSED)
         print_refused(json, &judged->refused);
+}
+
+static void print_file_object(struct json *json, const struct judged *judged) {
+    begin_file(json, judged);
     json_number(json, "groups", judged->group_count);
     json_number(json, "works", judged->work_count);
     json_number(json, "records", judged->check.count);
@@ -193,17 +203,22 @@ static void print_tally(struct json *json, const size_t tally[FINDINGS]) {
     json_end_list(json);
 }
 
+/* What every total begins with. */
+static void begin_total(struct json *json, const struct run *run, const struct night *night) {
+    json_object(json, NULL);
+    json_words(json, "kind", "total");
+    json_number(json, "status", (size_t)night->status);
+    json_number(json, "files", night->files);
+    json_object(json, "files_by_outcome");
+    for (size_t outcome = 0; outcome < OUTCOMES; outcome++)
+        if (outcome_is_of((enum outcome)outcome, run->options->first))
+            json_number(json, outcome_words((enum outcome)outcome), night->by_outcome[outcome]);
+    json_end_object(json);
+}
+
 static void print_night(struct out *out, const struct run *run, const struct night *night) {
     struct json json = json_to(out);
-    (void)run;
-    json_object(&json, NULL);
-    json_words(&json, "kind", "total");
-    json_number(&json, "status", (size_t)night->status);
-    json_number(&json, "files", night->files);
-    json_object(&json, "files_by_outcome");
-    for (size_t outcome = 0; outcome < OUTCOMES; outcome++)
-        json_number(&json, outcome_words((enum outcome)outcome), night->by_outcome[outcome]);
-    json_end_object(&json);
+    begin_total(&json, run, night);
     json_number(&json, "groups", night->groups);
     json_number(&json, "works", night->works);
     json_number(&json, "records", night->records);
@@ -215,3 +230,35 @@ static void print_night(struct out *out, const struct run *run, const struct nig
 }
 
 const struct report json_report = {print_run, print_file, print_night};
+
+/* ---- the first work to look at, and no more */
+
+/* Null says that there is none; of a file that is not judged nothing is said. */
+static void print_first_work(struct json *json, const struct judged *judged) {
+    const struct first *first = &judged->first;
+    if (judged->outcome == OUTCOME_NONE_REJECTED)
+        json_words(json, "first", NULL);
+    if (judged->outcome != OUTCOME_REJECTED)
+        return;
+    json_object(json, "first");
+    json_number(json, "line", first->record + 1);
+    print_header(json, first->header, first->group, first->transaction);
+    json_number(json, "works_before", first->works_before);
+    json_end_object(json);
+}
+
+static void print_first(struct out *out, const struct run *run, const struct judged *judged) {
+    struct json json = json_to(out);
+    (void)run;
+    begin_file(&json, judged);
+    print_first_work(&json, judged);
+    json_end_line(&json);
+}
+
+static void print_night_of_first(struct out *out, const struct run *run, const struct night *night) {
+    struct json json = json_to(out);
+    begin_total(&json, run, night);
+    json_end_line(&json);
+}
+
+const struct report json_first = {print_run, print_first, print_night_of_first};

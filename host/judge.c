@@ -1,4 +1,4 @@
-/* How a file is judged: read, checked, taken apart, and its findings gathered. */
+/* How a file is judged: read, checked, taken apart, and its findings gathered; or, with --first, asked for its first work to look at. */
 #include <stdlib.h>
 
 #include "cwr.h"
@@ -14,12 +14,20 @@ static enum outcome outcome_of(const struct judged *judged) {
     return verdict < CWR_TRANSACTION_REJECTED ? (enum outcome)verdict : OUTCOME_REJECTED;
 }
 
-static bool judge_checked(const struct run *run, struct judged *judged) {
-    if (cwr_refusal(judged->check.answer) != 0) {
-        judged->outcome = OUTCOME_REFUSED;
-        refused_explain(&judged->refused, judged->check.file, judged->check.answer);
+/* Whether the file is refused by this answer; then that is its outcome, and why is explained. */
+static bool is_refused(struct judged *judged, struct bytes file, uint64_t answer) {
+    if (cwr_refusal(answer) == 0)
+        return false;
+    judged->outcome = OUTCOME_REFUSED;
+    refused_explain(&judged->refused, file, answer);
+    return true;
+}
+
+static bool judge_all(const struct run *run, struct bytes file, struct judged *judged) {
+    if (!check_run(run, file, &judged->check, &judged->why))
+        return false;
+    if (is_refused(judged, file, judged->check.answer))
         return true;
-    }
     if (!works_of(judged))
         return fail(&judged->why, "needs more memory than there is");
     if (!gather_findings(run, judged))
@@ -28,12 +36,23 @@ static bool judge_checked(const struct run *run, struct judged *judged) {
     return true;
 }
 
+/* No work is rejected with its group unless one is for something in itself. So where there is none to look at, none is rejected. */
+static bool judge_first(const struct run *run, struct bytes file, struct judged *judged) {
+    uint64_t answer = run_first(run, file);
+    if (is_refused(judged, file, answer))
+        return true;
+    bool any = cwr_place(answer) != CWR_NO_TRANSACTION;
+    judged->outcome = any ? OUTCOME_REJECTED : OUTCOME_NONE_REJECTED;
+    return !any || first_find(file, cwr_place(answer), &judged->first, &judged->why);
+}
+
 void judge(const struct run *run, const char *path, struct judged *judged) {
     *judged = (struct judged){.name = file_title(path), .outcome = OUTCOME_FAILED};
     if (!file_read(path, CWR_MOST_BYTES, &judged->content, &judged->why))
         return;
     struct bytes file = {judged->content.bytes, judged->content.length};
-    if (!check_run(run, file, &judged->check, &judged->why) || !judge_checked(run, judged))
+    bool done = run->options->first ? judge_first(run, file, judged) : judge_all(run, file, judged);
+    if (!done)
         judged->outcome = OUTCOME_FAILED;
 }
 

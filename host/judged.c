@@ -5,13 +5,15 @@ enum { SHORT_FIELD = 14 };
 static const struct {
     const char *words, *of_files;
     enum status status;
+    bool of_check, of_first;
 } outcomes[OUTCOMES] = {
-    [OUTCOME_ACCEPTED] = {"accepted", "accepted", STATUS_ACCEPTED},
-    [OUTCOME_DEFAULTED] = {"accepted with defaults", "accepted with defaults", STATUS_DEFAULTED},
-    [OUTCOME_LEFT_OUT] = {"accepted with records left out", "accepted with records left out", STATUS_DEFAULTED},
-    [OUTCOME_REJECTED] = {"works rejected", "with works rejected", STATUS_REJECTED},
-    [OUTCOME_REFUSED] = {"refused", "refused", STATUS_REFUSED},
-    [OUTCOME_FAILED] = {"not checked", "not checked", STATUS_FAILED},
+    [OUTCOME_ACCEPTED] = {"accepted", "accepted", STATUS_ACCEPTED, true, false},
+    [OUTCOME_DEFAULTED] = {"accepted with defaults", "accepted with defaults", STATUS_DEFAULTED, true, false},
+    [OUTCOME_LEFT_OUT] = {"accepted with records left out", "accepted with records left out", STATUS_DEFAULTED, true, false},
+    [OUTCOME_NONE_REJECTED] = {"no work rejected", "with no work rejected", STATUS_ACCEPTED, false, true},
+    [OUTCOME_REJECTED] = {"works rejected", "with works rejected", STATUS_REJECTED, true, true},
+    [OUTCOME_REFUSED] = {"refused", "refused", STATUS_REFUSED, true, true},
+    [OUTCOME_FAILED] = {"not checked", "not checked", STATUS_FAILED, true, true},
 };
 
 const char *outcome_words(enum outcome outcome) {
@@ -26,16 +28,24 @@ enum status outcome_status(enum outcome outcome) {
     return outcomes[outcome].status;
 }
 
+bool outcome_is_of(enum outcome outcome, bool first) {
+    return first ? outcomes[outcome].of_first : outcomes[outcome].of_check;
+}
+
 size_t found_column(const struct judged *judged, const struct found *found) {
     return found->field_count > 0 ? judged->fields[found->fields].field->start : 1;
 }
 
-struct bytes work_number(const struct judged *judged, const struct work *work) {
-    return text_trimmed(text_field(judged->check.records[work->header], 82, 14));
+struct bytes work_header(const struct judged *judged, const struct work *work) {
+    return judged->check.records[work->header];
 }
 
-struct bytes work_title(const struct judged *judged, const struct work *work) {
-    return text_trimmed(text_field(judged->check.records[work->header], 20, 60));
+struct bytes header_number(struct bytes header) {
+    return text_trimmed(text_field(header, 82, 14));
+}
+
+struct bytes header_title(struct bytes header) {
+    return text_trimmed(text_field(header, 20, 60));
 }
 
 struct bytes field_shown(const struct found_field *field) {

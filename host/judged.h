@@ -3,6 +3,7 @@
 #define JUDGED_H
 
 #include "check.h"
+#include "first.h"
 #include "reading.h"
 #include "refused.h"
 #include "run.h"
@@ -14,12 +15,13 @@
 enum { NO_CHAIN = 100 }; /* chains go by two digits */
 
 enum outcome {
-    OUTCOME_ACCEPTED,  /* each work, as it is */
-    OUTCOME_DEFAULTED, /* each work, some with defaults */
-    OUTCOME_LEFT_OUT,  /* each work, some with records left out */
-    OUTCOME_REJECTED,  /* some work is rejected */
-    OUTCOME_REFUSED,   /* the file as a whole */
-    OUTCOME_FAILED     /* it could not be checked */
+    OUTCOME_ACCEPTED,      /* each work, as it is */
+    OUTCOME_DEFAULTED,     /* each work, some with defaults */
+    OUTCOME_LEFT_OUT,      /* each work, some with records left out */
+    OUTCOME_NONE_REJECTED, /* no more is known: with --first */
+    OUTCOME_REJECTED,      /* some work is rejected */
+    OUTCOME_REFUSED,       /* the file as a whole */
+    OUTCOME_FAILED         /* it could not be checked */
 };
 enum { OUTCOMES = OUTCOME_FAILED + 1 };
 
@@ -27,6 +29,9 @@ enum { OUTCOMES = OUTCOME_FAILED + 1 };
 const char *outcome_words(enum outcome outcome);
 const char *outcome_of_files(enum outcome outcome);
 enum status outcome_status(enum outcome outcome);
+
+/* Whether a file can have this outcome: in a check, and with --first. */
+bool outcome_is_of(enum outcome outcome, bool first);
 
 /* A field that a finding speaks of. */
 struct found_field {
@@ -67,6 +72,7 @@ struct judged {
     enum outcome outcome;
     struct why why;         /* where it could not be checked */
     struct refused refused; /* where it was refused */
+    struct first first;     /* with --first, where some work is rejected; then of what follows the content alone is filled */
 
     size_t group_count, work_count;
     struct group *groups;
@@ -84,7 +90,7 @@ struct judged {
     struct check check;
 };
 
-/* Reads and checks one file. `name` must live as long. */
+/* Reads and checks one file, with --first as far as that needs. `name` must live as long. */
 void judge(const struct run *run, const char *path, struct judged *judged);
 
 /* One that could not even be read. */
@@ -95,9 +101,10 @@ void judged_free(struct judged *judged);
 /* The column of a finding: where the first of its fields starts, or 1. */
 size_t found_column(const struct judged *judged, const struct found *found);
 
-/* The words by which a clerk knows a work. */
-struct bytes work_number(const struct judged *judged, const struct work *work);
-struct bytes work_title(const struct judged *judged, const struct work *work);
+/* The record that a work begins with; and in it the words by which a clerk knows the work. */
+struct bytes work_header(const struct judged *judged, const struct work *work);
+struct bytes header_number(struct bytes header);
+struct bytes header_title(struct bytes header);
 
 /* Of a field, the text as it is to be shown: spaces around a long one are nothing, in a code or a number they count. */
 struct bytes field_shown(const struct found_field *field);

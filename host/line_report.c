@@ -40,13 +40,18 @@ static void print_work(struct out *out, const struct run *run, const struct judg
     }
 }
 
+/* Of a file that is not judged, why not. */
+static void print_unjudged(struct out *out, const struct judged *judged) {
+    const struct refused *refused = &judged->refused;
+    if (judged->outcome != OUTCOME_REFUSED && judged->outcome != OUTCOME_FAILED)
+        return;
+    say_place(out, judged, refused->has_line ? (size_t)refused->place + 1 : 1, refused->has_line ? refused->column : 1);
+    say_outcome(out, judged);
+    say(out, "\n");
+}
+
 static void print_file(struct out *out, const struct run *run, const struct judged *judged) {
-    if (judged->outcome == OUTCOME_REFUSED || judged->outcome == OUTCOME_FAILED) {
-        const struct refused *refused = &judged->refused;
-        say_place(out, judged, refused->has_line ? (size_t)refused->place + 1 : 1, refused->has_line ? refused->column : 1);
-        say_outcome(out, judged);
-        say(out, "\n");
-    }
+    print_unjudged(out, judged);
     for (size_t i = 0; i < judged->work_count; i++)
         print_work(out, run, judged, &judged->works[i]);
     if (judged->findings_left_out > 0 || judged->works_left_out > 0) {
@@ -57,3 +62,15 @@ static void print_file(struct out *out, const struct run *run, const struct judg
 }
 
 const struct report line_report = {NULL, print_file, NULL};
+
+static void print_first(struct out *out, const struct run *run, const struct judged *judged) {
+    (void)run;
+    print_unjudged(out, judged);
+    if (judged->outcome != OUTCOME_REJECTED)
+        return;
+    say_place(out, judged, judged->first.record + 1, 1);
+    say_first(out, judged);
+    say(out, "\n");
+}
+
+const struct report line_first = {NULL, print_first, NULL};

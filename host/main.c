@@ -18,6 +18,13 @@
 static const struct report *const reports[] = {
     [FORMAT_TEXT] = &text_report, [FORMAT_LINE] = &line_report, [FORMAT_JSON] = &json_report, [FORMAT_LIST] = &list_report};
 
+/* With --first, which is no listing. */
+static const struct report *const first_reports[] = {[FORMAT_TEXT] = &text_first, [FORMAT_LINE] = &line_first, [FORMAT_JSON] = &json_first};
+
+static const struct report *report_of(const struct options *options) {
+    return options->first ? first_reports[options->format] : reports[options->format];
+}
+
 /* What is made of all files of a run. */
 struct session {
     const struct run *run;
@@ -33,7 +40,7 @@ static void tell(struct session *session, const struct judged *judged) {
     progress_make_way(&session->progress);
     if (judged->outcome == OUTCOME_FAILED)
         complain("%s %s", judged->name, judged->why.words);
-    reports[run->options->format]->file(session->out, run, judged);
+    report_of(run->options)->file(session->out, run, judged);
     if (session->page)
         page_add(session->page, run, judged);
 }
@@ -50,7 +57,7 @@ static void check_one(struct session *session, const struct name *name) {
 }
 
 static enum status check_all(struct out *out, const struct run *run, const struct names *names, struct page *page) {
-    const struct report *report = reports[run->options->format];
+    const struct report *report = report_of(run->options);
     struct session session = {run, out, page, {.status = STATUS_ACCEPTED}, progress_begin(names->count)};
     if (report->begin)
         report->begin(out, run);

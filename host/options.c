@@ -15,6 +15,7 @@ const char options_usage[] =
     "  --tables FOLDER  where languages.txt, societies.txt and categories.txt are\n"
     "  --tolerance N    how far shares may be off, 0 to 6 hundredths of a percent; 6 where it is not given\n"
     "  --format NAME    text, line (a line a finding, as compilers print) or json (an object a line); text where it is not given\n"
+    "  --first          of each file the first work that is rejected for something in itself; nothing else is looked for\n"
     "  --list           a line a record of one file, for other programs to read\n"
     "  --summary        the outcome of each file, the totals and how often each finding holds, and no more\n"
     "  --level LEVEL    findings of this level and above: FR, RR, TR or GR\n"
@@ -22,8 +23,8 @@ const char options_usage[] =
     "  --html OUT       write a page for the clerk to OUT as well\n"
     "  --force          replace OUT where it exists; FILE itself is never replaced\n"
     "\n"
-    "status: 0 all accepted, or numbered; 1 defaults or records left out; 2 works rejected; 3 files refused; 4 wrong use, or reading\n"
-    "or writing failed\n";
+    "status: 0 all accepted, or numbered, or with --first no work rejected; 1 defaults or records left out; 2 works rejected;\n"
+    "3 files refused; 4 wrong use, or reading or writing failed\n";
 
 static bool wrong_use(const char *words, const char *about) {
     return complain("%s%s; cwrcheck --help says how it is used", words, about);
@@ -109,6 +110,7 @@ static const struct option known[] = {
     {"-h", FLAG(help)},
     {"--version", FLAG(version)},
     {"--list", FLAG(list)},
+    {"--first", FLAG(first)},
     {"--summary", FLAG(summary)},
     {"--recursive", FLAG(recursive)},
     {"--force", FLAG(force)},
@@ -155,8 +157,8 @@ static int take_option(struct options *options, const char *word, const char *ne
 
 /* Numbering looks at no table and at no share, and reports nothing. */
 static bool fits_numbering(const struct options *options) {
-    if (options->tables || options->list || options->summary || options->recursive || options->html || options->has_tolerance ||
-        options->has_format || options->has_level || options->has_most)
+    if (options->tables || options->list || options->first || options->summary || options->recursive || options->html ||
+        options->has_tolerance || options->has_format || options->has_level || options->has_most)
         return wrong_use("--number takes one file, and of the options --force alone", "");
     return options->count == 1 || wrong_use("--number takes one file", "");
 }
@@ -166,6 +168,8 @@ static bool fits_check(const struct options *options) {
         return wrong_use("no folder of tables is named: --tables FOLDER", "");
     if (options->force && !options->html)
         return wrong_use("--force belongs to --number and --html", "");
+    if (options->first && (options->list || options->summary || options->has_level || options->has_most || options->html))
+        return wrong_use("--first tells one work of a file, and takes neither --list nor --summary nor --level nor --most nor --html", "");
     if (options->list && (options->has_format || options->summary || options->has_level || options->has_most || options->html))
         return wrong_use("--list is a format of its own, and takes neither --summary nor --level nor --most nor --html", "");
     if (options->summary && options->format == FORMAT_LINE)
@@ -198,5 +202,8 @@ bool options_read(struct options *options, int count, char *const *words, const 
     }
     if (options->list)
         options->format = FORMAT_LIST;
+    /* It looks for nothing below. */
+    if (options->first)
+        options->level = level_named("TR");
     return fits(options);
 }

@@ -3,11 +3,22 @@
 #include "cwr.h"
 #include "version.h"
 
+enum { SHOWN_TITLE = 60 };
+
 void say_run(struct out *out, const struct run *run, say_name_so *say_folder) {
     say(out, "cwrcheck %s, tolerance %s, tables ", CWRCHECK_VERSION, percent_of(run->tolerance).words);
     say_folder(out, run->options->tables);
     for (size_t place = 0; place < TABLES; place++)
         say(out, "%s%zu %s", place == 0 ? ": " : ", ", table_count(&run->tables, place), table_plural(place));
+}
+
+void say_work(struct out *out, struct bytes header, size_t group, size_t transaction) {
+    say_text(out, text_field(header, 1, 3));
+    say(out, ", work ");
+    say_quoted(out, header_number(header), SHOWN_TITLE);
+    say(out, ", title ");
+    say_quoted(out, header_title(header), SHOWN_TITLE);
+    say(out, " (group %zu, transaction %zu)", group, transaction);
 }
 
 void say_works(struct out *out, size_t works, const size_t by[VERDICTS]) {
@@ -46,17 +57,35 @@ static void say_refused(struct out *out, const struct refused *refused) {
     say(out, ". %s", refused_reason(refused));
 }
 
-void say_outcome(struct out *out, const struct judged *judged) {
+/* The outcome, and where the file is not judged, why not. */
+static void say_outcome_alone(struct out *out, const struct judged *judged) {
     say(out, "%s", outcome_words(judged->outcome));
     if (judged->outcome == OUTCOME_FAILED) {
         say(out, ", for it ");
         say_name(out, judged->why.words);
     } else if (judged->outcome == OUTCOME_REFUSED) {
         say_refused(out, &judged->refused);
-    } else {
-        say(out, ". ");
-        say_works(out, judged->work_count, judged->works_by);
     }
+}
+
+void say_outcome(struct out *out, const struct judged *judged) {
+    say_outcome_alone(out, judged);
+    if (judged->outcome == OUTCOME_FAILED || judged->outcome == OUTCOME_REFUSED)
+        return;
+    say(out, ". ");
+    say_works(out, judged->work_count, judged->works_by);
+}
+
+void say_first(struct out *out, const struct judged *judged) {
+    const struct first *first = &judged->first;
+    say_outcome_alone(out, judged);
+    if (judged->outcome != OUTCOME_REJECTED)
+        return;
+    say(out, ". The first to look at: line %zu, ", first->record + 1);
+    say_work(out, first->header, first->group, first->transaction);
+    say(out, ", with ");
+    say_count(out, first->works_before, "work");
+    say(out, " before it");
 }
 
 void say_sums(struct out *out, const struct work *work, const struct found *found, size_t right) {

@@ -16,6 +16,12 @@ void say_run(struct out *out, const struct run *run, say_name_so *say_folder);
 /* The outcome of a file in a few words that can be acted on; its name is said before. */
 void say_outcome(struct out *out, const struct judged *judged);
 
+/* The same with --first: the first work to look at, in the place of works counted. */
+void say_first(struct out *out, const struct judged *judged);
+
+/* What a clerk knows a work by: NWR, work "LQ-000002", title "NINE OF TEN" (group 1, transaction 1) */
+void say_work(struct out *out, struct bytes header, size_t group, size_t transaction);
+
 /* "7 works: 3 accepted, 4 rejected" */
 void say_works(struct out *out, size_t works, const size_t by[VERDICTS]);
 

@@ -15,4 +15,7 @@ struct report {
 
 extern const struct report text_report, line_report, json_report, list_report;
 
+/* With --first. */
+extern const struct report text_first, line_first, json_first;
+
 #endif

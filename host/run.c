@@ -17,6 +17,12 @@ uint64_t run_check(const struct run *run, struct bytes file, uint8_t *verdicts, 
                             of[2].length, verdicts, verdicts_length, findings, findings_length);
 }
 
+uint64_t run_first(const struct run *run, struct bytes file) {
+    const struct table *of = run->tables.of;
+    return cwr_first_rejected(run->tolerance, file.at, file.length, of[0].codes, of[0].length, of[1].codes, of[1].length, of[2].codes,
+                              of[2].length);
+}
+
 /* The library looks at the tolerance and the tables before any file, so the empty one shows what it says of them. */
 static bool is_taken(const struct run *run) {
     uint8_t nothing[CWR_FINDING_BYTES] = {0};

@@ -21,4 +21,7 @@ void run_end(struct run *run);
 uint64_t run_check(const struct run *run, struct bytes file, uint8_t *verdicts, size_t verdicts_length, uint8_t *findings,
                    size_t findings_length);
 
+/* The library asked for the first work to look at alone, which it finds without judging the rest. */
+uint64_t run_first(const struct run *run, struct bytes file);
+
 #endif

@@ -3,7 +3,7 @@
 #include "phrases.h"
 #include "reports.h"
 
-enum { SHOWN_TITLE = 60, SHOWN_LINE = 72 };
+enum { SHOWN_LINE = 72 };
 
 /* ---- one finding */
 
@@ -45,12 +45,8 @@ static void print_record(struct out *out, const struct judged *judged, size_t re
 
 static void print_work(struct out *out, const struct run *run, const struct judged *judged, const struct work *work) {
     say(out, "\nLine %zu, ", work->header + 1);
-    say_text(out, text_field(judged->check.records[work->header], 1, 3));
-    say(out, ", work ");
-    say_quoted(out, work_number(judged, work), SHOWN_TITLE);
-    say(out, ", title ");
-    say_quoted(out, work_title(judged, work), SHOWN_TITLE);
-    say(out, " (group %zu, transaction %zu): ", work->group, work->transaction);
+    say_work(out, work_header(judged, work), work->group, work->transaction);
+    say(out, ": ");
     say_verdict(out, work);
     say(out, "\n");
     size_t last = NO_RECORD;
@@ -129,10 +125,14 @@ static void print_tally(struct out *out, const size_t tally[FINDINGS]) {
     }
 }
 
-static void print_night(struct out *out, const struct run *run, const struct night *night) {
+static void print_files(struct out *out, const struct night *night) {
     say(out, "\nTotal: ");
     say_files(out, night);
     say(out, "\n");
+}
+
+static void print_night(struct out *out, const struct run *run, const struct night *night) {
+    print_files(out, night);
     say_works(out, night->works, night->works_by);
     say(out, "\n");
     say_count(out, night->records, "record");
@@ -155,3 +155,26 @@ static void print_run(struct out *out, const struct run *run) {
 }
 
 const struct report text_report = {print_run, print_file, print_night};
+
+/* ---- the first work to look at, and no more */
+
+static void print_run_of_first(struct out *out, const struct run *run) {
+    say_run(out, run, say_name);
+    say(out, "\nOf each file the first work that is rejected for something in itself; defaults and records left out are not looked for.\n");
+    say(out, "\n");
+}
+
+static void print_first(struct out *out, const struct run *run, const struct judged *judged) {
+    (void)run;
+    say_name(out, judged->name);
+    say(out, ": ");
+    say_first(out, judged);
+    say(out, "\n");
+}
+
+static void print_night_of_first(struct out *out, const struct run *run, const struct night *night) {
+    (void)run;
+    print_files(out, night);
+}
+
+const struct report text_first = {print_run_of_first, print_first, print_night_of_first};

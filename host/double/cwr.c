@@ -4,6 +4,7 @@
  *   CWR_DOUBLE_REFUSES "7 3"     every call refuses by 7 at place 3
  *   CWR_DOUBLE_FINDS "1ff"       each record gets this set of findings, in hexadecimal
  *   CWR_DOUBLE_VERDICT "3"       and this verdict
+ *   CWR_DOUBLE_FIRST "4"         this is the first work to look at, counted from 0; where it is not told, there is none
  *   CWR_DOUBLE_MISCOUNTS "1"     the answer is this many records too large
  *   CWR_DOUBLE_LENGTH "183"      a record of any type has this length
  *   CWR_DOUBLE_SLEEPS "2"        each check takes so many seconds
@@ -66,6 +67,18 @@ uint64_t cwr_check(const uint8_t *file, size_t file_length, const uint8_t *langu
                    size_t verdicts_length, uint8_t *findings, size_t findings_length) {
     return cwr_check_within(CWR_LARGEST_TOLERANCE, file, file_length, languages, languages_length, societies, societies_length, categories,
                             categories_length, verdicts, verdicts_length, findings, findings_length);
+}
+
+uint64_t cwr_first_rejected(uint64_t tolerance, const uint8_t *file, size_t file_length, const uint8_t *languages,
+                            size_t languages_length, const uint8_t *societies, size_t societies_length, const uint8_t *categories,
+                            size_t categories_length) {
+    uint64_t answered = answer(file, file_length);
+    sleep((unsigned)told("CWR_DOUBLE_SLEEPS", 10));
+    (void)tolerance, (void)languages, (void)languages_length, (void)societies, (void)societies_length, (void)categories;
+    (void)categories_length;
+    if (answered >> 32 != 0)
+        return answered;
+    return getenv("CWR_DOUBLE_FIRST") ? told("CWR_DOUBLE_FIRST", 10) : CWR_NO_TRANSACTION;
 }
 
 uint64_t cwr_number(const uint8_t *file, size_t file_length, uint8_t *out, size_t out_length) {
