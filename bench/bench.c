@@ -5,8 +5,9 @@
  *   bench only NAME    one of them
  *   bench cold         the file "right", which each work finds in no cache, as a file that has just been loaded
  *   bench small        each file a hundredth as long, once, to see that all works
- *   bench once WORK    one work once on the file "right", untimed, and its length;
- *                      read, copy, structure, check, number, or nothing
+ *   bench once WORK NAME
+ *                      one work once on that file, untimed, and its length;
+ *                      read, copy, structure, check, search, number, or nothing
  *   bench stack        the stack that each work takes
  *   bench write PATH   writes the file "right" there
  *
@@ -19,7 +20,7 @@
 /* The structural check alone, refusals 3 to 10; its answer is as cwr_check's. */
 uint64_t probe_structure(const uint8_t *file, size_t length);
 
-enum work { READ, COPY, STRUCTURE, CHECK, NUMBER, WORKS };
+enum work { READ, COPY, STRUCTURE, CHECK, SEARCH, NUMBER, WORKS };
 
 /* One file and what is lent to the works on it. */
 struct bench {
@@ -56,12 +57,18 @@ static uint64_t check(struct bench *b) {
                      b->findings, FINDINGS_BYTES);
 }
 
+static uint64_t search(struct bench *b) {
+    const struct codes *tables = b->file.tables;
+    return cwr_first_rejected(CWR_LARGEST_TOLERANCE, b->file.bytes, b->file.length, tables[LANGUAGES].bytes, tables[LANGUAGES].length,
+                              tables[SOCIETIES].bytes, tables[SOCIETIES].length, tables[CATEGORIES].bytes, tables[CATEGORIES].length);
+}
+
 static uint64_t number(struct bench *b) {
     return cwr_number(b->wiped, b->file.length, b->out, b->file.length);
 }
 
-static uint64_t (*const works[WORKS])(struct bench *b) = {read_plainly, copy, structure, check, number};
-static const char *const names[WORKS] = {"read", "copy", "structure", "check", "number"};
+static uint64_t (*const works[WORKS])(struct bench *b) = {read_plainly, copy, structure, check, search, number};
+static const char *const names[WORKS] = {"read", "copy", "structure", "check", "search", "number"};
 
 /* ---- whether they did what is right */
 
@@ -71,13 +78,14 @@ _Noreturn static void wrong(const struct file *f, const char *words) {
 }
 
 static uint64_t right_answer(const struct file *f, enum work work) {
-    const uint64_t answers[WORKS] = {0, 0, f->structure, f->structure, f->number};
+    const uint64_t answers[WORKS] = {0, 0, f->structure, f->structure, f->search, f->number};
     return answers[work];
 }
 
 static void compare_answer(const struct file *f, enum work work, uint64_t answer) {
-    static const char *const words[WORKS] = {"", "", "the structural check's answer is wrong", "the check's answer is wrong",
-                                             "numbering's answer is wrong"};
+    static const char *const words[WORKS] = {
+        "", "", "the structural check's answer is wrong", "the check's answer is wrong", "the search's answer is wrong",
+        "numbering's answer is wrong"};
     if (answer != right_answer(f, work))
         wrong(f, words[work]);
 }
@@ -149,8 +157,8 @@ static uint64_t best_of_row(struct bench *b, enum work work, const struct pace *
     return best;
 }
 
-/* Each work is done many times in a row, so that it finds in the caches what it left there, unless they are emptied; and they take turns at that, so that none has
- * the quieter machine. Numbering is the last that writes to `out`. */
+/* Each work is done many times in a row, so that it finds in the caches what it left there, unless they are emptied; and they take turns at
+ * that, so that none has the quieter machine. Numbering is the last that writes to `out`. */
 static void take_turns(struct bench *b, const struct pace *pace, uint64_t best[WORKS]) {
     for (enum work work = 0; work < WORKS; work++)
         best[work] = UINT64_MAX;
@@ -163,20 +171,28 @@ static void take_turns(struct bench *b, const struct pace *pace, uint64_t best[W
 }
 
 static void print_heads(void) {
-    printf("%-18s %7s %9s %6s %6s  %-21s  %-21s  %-21s\n", "", "", "", "read", "copy", "structure", "check", "number");
-    printf("%-18s %7s %9s %6s %6s", "file", "records", "bytes", "ms", "ms");
-    printf("  %7s %6s %6s  %7s %6s %6s  %7s %6s %6s\n", "ms", "x read", "ns/rec", "ms", "x read", "ns/rec", "ms", "x copy", "ns/rec");
+    printf("%-19s %7s %9s %6s %6s  %-21s  %-21s  %-24s  %-21s\n", "", "", "", "read", "copy", "structure", "check", "search", "number");
+    printf("%-19s %7s %9s %6s %6s", "file", "records", "bytes", "ms", "ms");
+    printf("  %7s %6s %6s  %7s %6s %6s", "ms", "x read", "ns/rec", "ms", "x read", "ns/rec");
+    printf("  %7s %8s %7s  %7s %6s %6s\n", "ms", "x struct", "x check", "ms", "x copy", "ns/rec");
 }
 
 static void print_work(const struct file *f, uint64_t took, uint64_t beside) {
     printf("  %7.2f %6.2f %6.1f", (double)took / 1e6, (double)took / (double)beside, (double)took / (double)f->records);
 }
 
+/* The search lies between the structural check and the whole one, so it stands beside both. */
+static void print_search(const uint64_t best[WORKS]) {
+    double took = (double)best[SEARCH];
+    printf("  %7.2f %8.2f %7.2f", took / 1e6, took / (double)best[STRUCTURE], took / (double)best[CHECK]);
+}
+
 static void print_times(const struct file *f, const uint64_t best[WORKS]) {
-    printf("%-18s %7lu %9lu %6.2f %6.2f", f->name, (unsigned long)f->records, (unsigned long)f->length, (double)best[READ] / 1e6,
+    printf("%-19s %7lu %9lu %6.2f %6.2f", f->name, (unsigned long)f->records, (unsigned long)f->length, (double)best[READ] / 1e6,
            (double)best[COPY] / 1e6);
     print_work(f, best[STRUCTURE], best[READ]);
     print_work(f, best[CHECK], best[READ]);
+    print_search(best);
     print_work(f, best[NUMBER], best[COPY]);
     printf("\n");
 }
@@ -243,10 +259,10 @@ static enum work work_named(const char *name) {
     return work;
 }
 
-static void do_once(const char *name) {
+static void do_once(const char *name, const char *file) {
     struct bench b;
     enum work work = work_named(name);
-    begin(&b, maker_named("right"), 1);
+    begin(&b, maker_named(file), 1);
     if (work != WORKS)
         compare_answer(&b.file, work, works[work](&b));
     printf("%lu\n", (unsigned long)b.file.length);
@@ -309,11 +325,11 @@ int main(int words, char **word) {
         measure_stacks();
     else if (words == 3 && strcmp(word[1], "only") == 0)
         measure_only(word[2], &usual);
-    else if (words == 3 && strcmp(word[1], "once") == 0)
-        do_once(word[2]);
+    else if (words == 4 && strcmp(word[1], "once") == 0)
+        do_once(word[2], word[3]);
     else if (words == 3 && strcmp(word[1], "write") == 0)
         write_right(word[2]);
     else
-        stop("usage", "bench [small | cold | only NAME | once WORK | stack | write PATH]");
+        stop("usage", "bench [small | cold | only NAME | once WORK NAME | stack | write PATH]");
     return 0;
 }

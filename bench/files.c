@@ -223,16 +223,31 @@ static void spoil(struct file *f) {
 
 /* ---- the files */
 
-/* Groups of 2,000 works, one in four of revisions. Of so many works in 1,000 there is something to say. */
-static void make_works(struct file *f, uint64_t share, uint64_t flawed) {
+/* Which works there is something to say of: so many in 1,000; and the first and the last, where they are to have a flaw. */
+struct flawed {
+    uint64_t in_1000;
+    const struct flaw *first, *last;
+};
+
+static void spoil_some(struct file *f, const struct flawed *flawed, bool is_last) {
+    bool is_first = f->counts[TRANSACTIONS] == 1;
+    if (below(f, 1000) < flawed->in_1000)
+        spoil(f);
+    if (is_first && flawed->first)
+        put_flaw(f, flawed->first);
+    if (is_last && flawed->last)
+        put_flaw(f, flawed->last);
+}
+
+/* Groups of 2,000 works, one in four of revisions. */
+static void make_works(struct file *f, uint64_t share, struct flawed flawed) {
     size_t most = CWR_MOST_BYTES / share - 12000;
     lend_usual(f);
     while (f->length < most) {
         open_group(f, f->counts[GROUPS] % 4 == 3 ? "REV" : "NWR");
         for (int works = 0; works < 2000 && f->length < most; works++) {
             add_work(f);
-            if (below(f, 1000) < flawed)
-                spoil(f);
+            spoil_some(f, &flawed, f->length >= most);
             judge(f);
         }
         add(f, "GRT");
@@ -241,14 +256,34 @@ static void make_works(struct file *f, uint64_t share, uint64_t flawed) {
 }
 
 static void make_right(struct file *f, uint64_t share) {
-    make_works(f, share, 0);
+    make_works(f, share, (struct flawed){0, NULL, NULL});
     for (size_t i = 0; i < f->records * CWR_FINDING_BYTES; i++)
         if (f->findings[i] != 0)
             stop(f->name, "a finding was made in it");
 }
 
 static void make_flawed(struct file *f, uint64_t share) {
-    make_works(f, share, 30);
+    make_works(f, share, (struct flawed){30, NULL, NULL});
+}
+
+static void expect_rejected(const struct file *f, uint64_t transaction) {
+    if (f->search != transaction)
+        stop(f->name, "another work is the first rejected one");
+}
+
+/* In the first work the record after the header, a publisher, has no party number: the search cannot end earlier. */
+static void make_first_rejected(struct file *f, uint64_t share) {
+    static const struct flaw no_party = {"SPU", 22, "         ", 26, 0, 0};
+    make_works(f, share, (struct flawed){0, &no_party, NULL});
+    expect_rejected(f, 0);
+}
+
+/* In the last work a writer owns too little, which is found on the header once all details were read: the search cannot end later. The first
+ * work has a finding too, but one that rejects nothing. */
+static void make_last_rejected(struct file *f, uint64_t share) {
+    static const struct flaw wrong_tax = {"SPU", 79, "12-345678", 37, 0, 0}, small_share = {"SWR", 130, "00100", 0, 2, 3};
+    make_works(f, share, (struct flawed){0, &wrong_tax, &small_share});
+    expect_rejected(f, f->counts[TRANSACTIONS] - 1);
 }
 
 /* TRL's count of records is wrong, after all that is right. */
@@ -256,7 +291,7 @@ static void make_fault(struct file *f, uint64_t share) {
     make_right(f, share);
     f->right_length = f->length - 3;
     f->bytes[f->right_length] ^= 1;
-    f->structure = (9ull << 32) + f->records - 1;
+    f->structure = f->search = (9ull << 32) + f->records - 1;
 }
 
 /* The header of an original song, whose publishers are all in one chain. */
@@ -415,14 +450,16 @@ static void make_colliding(struct file *f, uint64_t share) {
 }
 
 const struct maker makers[] = {
-    {"right",            make_right    },
-    {"flawed",           make_flawed   },
-    {"fault at the end", make_fault    },
-    {"131,072 records",  make_short    },
-    {"43,690 groups",    make_groups   },
-    {"one transaction",  make_one      },
-    {"codes missed",     make_missed   },
-    {"codes colliding",  make_colliding},
+    {"right",               make_right         },
+    {"flawed",              make_flawed        },
+    {"first work rejected", make_first_rejected},
+    {"last work rejected",  make_last_rejected },
+    {"fault at the end",    make_fault         },
+    {"131,072 records",     make_short         },
+    {"43,690 groups",       make_groups        },
+    {"one transaction",     make_one           },
+    {"codes missed",        make_missed        },
+    {"codes colliding",     make_colliding     },
 };
 const size_t makers_count = sizeof makers / sizeof makers[0];
 
@@ -439,6 +476,7 @@ void make(struct file *f, const struct maker *maker, uint64_t share) {
     memset(f, 0, sizeof *f);
     f->name = maker->name;
     f->seed = 20220001;
+    f->search = CWR_NO_TRANSACTION;
     f->bytes = room(f->name, CWR_MOST_BYTES);
     f->verdicts = room(f->name, CWR_MOST_RECORDS);
     f->findings = room(f->name, CWR_MOST_RECORDS * CWR_FINDING_BYTES);

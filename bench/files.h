@@ -24,7 +24,7 @@ struct file {
     struct codes tables[TABLES];
 
     /* What is right for it: the answers, and how far numbering leaves it as it is. */
-    uint64_t records, structure, number;
+    uint64_t records, structure, search, number;
     size_t right_length;
     uint8_t *verdicts, *findings;
 

@@ -489,6 +489,12 @@ static uint8_t own_level(const struct file *f, size_t record) {
     return most;
 }
 
+/* The transaction has a TR or GR finding of its own; the search answers the first that has. */
+static void note_rejected(struct file *f) {
+    if (f->search == CWR_NO_TRANSACTION)
+        f->search = f->counts[TRANSACTIONS] - 1;
+}
+
 void judge(struct file *f) {
     uint8_t most = 0;
     for (size_t i = f->transaction_record; i < f->counts[RECORDS]; i++) {
@@ -496,6 +502,8 @@ void judge(struct file *f) {
         if (f->verdicts[i] > most)
             most = f->verdicts[i];
     }
+    if (most >= CWR_TRANSACTION_REJECTED)
+        note_rejected(f);
     if (most == CWR_TRANSACTION_REJECTED)
         memset(f->verdicts + f->transaction_record, most, f->counts[RECORDS] - f->transaction_record);
 }

@@ -14,9 +14,9 @@ struct timespec {
     long nanoseconds;
 };
 
-/* pthread_attr_t */
+/* pthread_attr_t: 7 words on x86-64, and 8 on Arm, where the program is compiled too to be measured. */
 struct thread_kind {
-    uint64_t words[7];
+    uint64_t words[8];
 };
 
 typedef struct _IO_FILE FILE;
