@@ -2,11 +2,10 @@
 use mathlib.Core.Path.{_≡_, refl, sym, ap, _∙_}
 use mathlib.Core.Bool.{Bool, true, false, cond, _&&_, and-true, and-false, and-assoc}
 use mathlib.Core.List.{List, [], _∷_}
-use Prim.Native.Nat.{ℕ, zero, suc, _+_, _-_, _*_, _<_, _≤_}
-use native.Mathlib.Numerals.{sub-one}
+use Prim.Native.Nat.{ℕ, zero, suc, _+_, _-_, _*_, _/_, _%_, _<_, _≤_}
 use native.Mathlib.Omega.{arith}
-use borrow.Author.Tests.{ne-eqb, le-leb, lt-leb}
-use lib.Dec.{leb, eqb, eqb·suc-suc}
+use borrow.Author.Tests.{le-leb, lt-leb}
+use lib.Dec.{leb, eqb}
 use lib.ListN.{length, drop, getD, drop-of-length-le}
 use lib.Seq.{drop-cons}
 use Rattle.format.specs.Ascii.{ascii}
@@ -14,17 +13,24 @@ use Rattle.format.specs.Bytes.{Bytes, sameBytes}
 use Rattle.format.specs.Fields.{fieldOf, isDigit, areDigits, digit, numberOf}
 use Rattle.rules.specs.Values.{leapYear, monthLengths, daysIn, isDay, isDate, isDuration, iswcSum}
 
--- ---- the n bytes from i on, one by one
+-- ---- values one by one
 
-abbrev pub bytesFrom : ℕ → ℕ → Bytes → Bytes
-bytesFrom i zero l = []
-bytesFrom i (suc n) l = getD l i 0 ∷ bytesFrom (suc i) n l
+-- f of i, of i + 1 and so on, n in all
+abbrev pub valuesFrom : (ℕ → ℕ) → ℕ → ℕ → List ℕ
+valuesFrom f i zero = []
+valuesFrom f i (suc n) = f i ∷ valuesFrom f (suc i) n
 
-rest : (n i : ℕ) (l : Bytes) → length l ≡ i + n → drop i l ≡ bytesFrom i n l
+value-at : (f : ℕ → ℕ) (i n k : ℕ) → k < n → getD (valuesFrom f i n) k 0 ≡ f (i + k)
+value-at f i zero k h = absurd (omega arith)
+value-at f i (suc n) zero h = ap f (omega arith)
+value-at f i (suc n) (suc k) h = value-at f (suc i) n k (omega arith) ∙ ap f (omega arith)
+
+-- a list's own: the n from i on, and all of them
+rest : (n i : ℕ) (l : Bytes) → length l ≡ i + n → drop i l ≡ valuesFrom (λ j. getD l j 0) i n
 rest zero i l h = drop-of-length-le l {i = i} (omega arith)
 rest (suc n) i l h = drop-cons l i 0 (omega arith) ∙ ap (λ (x : Bytes). getD l i 0 ∷ x) (rest n (suc i) l (omega arith))
 
-pub spelled : (n : ℕ) (l : Bytes) → length l ≡ n → bytesFrom 0 n l ≡ l
+pub spelled : (n : ℕ) (l : Bytes) → length l ≡ n → valuesFrom (λ j. getD l j 0) 0 n ≡ l
 spelled n l h = sym (rest n 0 l (omega arith))
 
 -- ---- two bytes at a time
@@ -55,23 +61,17 @@ number-five a b c d e = omega arith
 
 -- ---- a date
 
--- the table has a common year's months; the second has a day more in a leap year
-february : (b : Bool) → 28 + cond b 1 0 ≡ cond b 29 28
-february true = refl
-february false = refl
+-- a month's days as the code computes them
+abbrev pub byRule : ℕ → ℕ → ℕ
+byRule y m = cond (eqb m 2) (cond (leapYear y) 29 28) (30 + (m + m / 8) % 2)
 
-abbrev pub commonYear : List ℕ
-commonYear = 31 ∷ 28 ∷ 31 ∷ 30 ∷ 31 ∷ 30 ∷ 31 ∷ 31 ∷ 30 ∷ 31 ∷ 30 ∷ 31 ∷ []
+-- computed for all twelve months at once, in any year
+twelve : (y : ℕ) → valuesFrom (byRule y) 1 12 ≡ monthLengths y
+twelve y = refl
 
-length-at : (y i : ℕ) → getD commonYear i 0 + cond (eqb i 1 && leapYear y) 1 0 ≡ getD (monthLengths y) i 0
-length-at y zero = refl
-length-at y (suc zero) = february (leapYear y)
-length-at y (suc (suc i)) = rw (ne-eqb (suc (suc i)) 1 (λ e. omega arith)) (omega arith)
-
-pub month : (y m : ℕ) → 1 ≤ m → getD commonYear (m - 1) 0 + cond (eqb m 2 && leapYear y) 1 0 ≡ daysIn y m
+pub month : (y m : ℕ) → 1 ≤ m → m ≤ 12 → byRule y m ≡ daysIn y m
 unfolding daysIn
-month y zero h = absurd (omega arith)
-month y (suc i) h = rw (sub-one, eqb·suc-suc i 1) (length-at y i)
+month y m g h = rw (← twelve y, value-at (byRule y) 1 12 (m - 1) (omega arith)) (ap (byRule y) {x = m} {y = 1 + (m - 1)} (omega arith))
 
 module _ (y m d : ℕ) where
   pub early : m < 1 → false ≡ isDay y m d

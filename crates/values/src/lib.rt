@@ -42,14 +42,14 @@ fn leap_year(y: u64) -> bool
     (y % 4 == 0) & ((y % 100 != 0) | (y % 400 == 0))
 }
 
-// The months of a common year.
-const LENGTHS: [u8; 12] = [31, 28, 31, 30, 31, 30, 31, 31, 30, 31, 30, 31];
-
-fn days_in(y: u64, m: usize) -> u64
+// Computed, so that no list of months is loaded. Up to July the odd months have 31 days and from August on the even ones: the eighth part,
+// which is 1 from there on, turns them about.
+fn days_in(y: u64, m: u64) -> u64
     requires { ⌜ (1 ≤ m) × (m ≤ 12) ⌝ }
     ensures { λ r. ⌜ r ≡ daysIn y m ⌝ }
 {
-    text::wide(LENGTHS[m - 1]) + either::bit((m == 2) & leap_year(y))
+    let february = either::number(leap_year(y), 29, 28);
+    either::number(m == 2, february, 30 + (m + m / 8) % 2)
 }
 
 fn is_day(y: u64, m: u64, d: u64) -> bool
@@ -61,7 +61,7 @@ fn is_day(y: u64, m: u64, d: u64) -> bool
     if 12 < m {
         return false;
     }
-    (1 <= y) & (1 <= d) & (d <= days_in(y, m as usize))
+    (1 <= y) & (1 <= d) & (d <= days_in(y, m))
 }
 
 pub fn date(field: &[u8]) -> bool
