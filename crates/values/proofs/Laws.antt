@@ -1,6 +1,6 @@
 -- A field of a fixed width byte by byte, and what its bytes make of it. Assumes nothing.
 use mathlib.Core.Path.{_≡_, refl, sym, ap, _∙_}
-use mathlib.Core.Bool.{Bool, true, false, cond, _&&_, and-true, and-false, and-assoc}
+use mathlib.Core.Bool.{false, cond, _&&_, and-true, and-false, and-assoc}
 use mathlib.Core.List.{List, [], _∷_}
 use Prim.Native.Nat.{ℕ, zero, suc, _+_, _-_, _*_, _/_, _%_, _<_, _≤_}
 use native.Mathlib.Omega.{arith}
@@ -65,7 +65,7 @@ number-five a b c d e = omega arith
 abbrev pub byRule : ℕ → ℕ → ℕ
 byRule y m = cond (eqb m 2) (cond (leapYear y) 29 28) (30 + (m + m / 8) % 2)
 
--- computed for all twelve months at once, in any year
+-- one computation: in any year, rule and list agree on all twelve months
 twelve : (y : ℕ) → valuesFrom (byRule y) 1 12 ≡ monthLengths y
 twelve y = refl
 
