@@ -33,6 +33,16 @@ fn blank(record: &[u8], start: usize, size: usize) -> bool {
     part(record, start, size).iter().all(|&byte| byte == b' ')
 }
 
+/// Month and day, of whatever year, judged as if another day stood there.
+fn day_as_if(asked: &Asked, days: &[&str], other: &str) -> Reply {
+    asked.as_if(&[20, 45], |record| {
+        for day in days {
+            replace(record, &HEADERS, 111, day, other);
+            replace(record, &["REC"], 24, day, other);
+        }
+    })
+}
+
 /// Sets or clears a finding of those records for which this holds.
 fn flip(asked: &Asked, finding: u32, holds: bool, concerns: fn(&[u8]) -> bool) -> Reply {
     asked.judged(|_, work, sets| {
@@ -431,6 +441,16 @@ pub const FAULTS: &[Fault] = &[
             replace(record, &HEADERS, 107, "19000229", "19040229");
             replace(record, &["REC"], 20, "19000229", "19040229");
         })
+    }),
+    ("20-seventh-part", |asked| {
+        // A month's length by its seventh part instead of its eighth: July
+        // alone then has another, 30.
+        day_as_if(asked, &["0731"], "0732")
+    }),
+    ("20-february-by-rule", |asked| {
+        // The rule for the other months would give it 30 days, in leap years
+        // and others.
+        day_as_if(asked, &["0229", "0230"], "0228")
     }),
     ("20-year-0", |asked| {
         asked.as_if(&[20], |record| {
