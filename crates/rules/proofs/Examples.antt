@@ -1,6 +1,7 @@
 -- Worked examples: transactions in which each finding holds at least once, and neighbours in which it does not. All are computed by one
 -- proof. Assumes nothing.
 use Prim.Native.Nat.{ℕ}
+use Prim.Native.String.{String}
 use mathlib.Core.Path.{_≡_, refl}
 use mathlib.Core.List.{List, [], _∷_, map}
 use Rattle.format.specs.Bytes.{Bytes}
@@ -37,21 +38,28 @@ second es = writer "SWR" (130 is "00000" ∷ 138 is "00000" ∷ 146 is "00000" �
 
 -- ---- what is found
 
--- header, details; the findings of each
+-- tolerance, header, details; the findings of each
 data Example : Type 0 where
-  found : Bytes → List Bytes → List (List ℕ) → Example
+  within : ℕ → Bytes → List Bytes → List (List ℕ) → Example
 
 computed : Example → List (List ℕ)
-computed (found h ds fs) = foundOn h ds
+computed (within t h ds fs) = foundOn t h ds
 
 said : Example → List (List ℕ)
-said (found h ds fs) = fs
+said (within t h ds fs) = fs
 
 nothing : List ℕ
 nothing = []
 
 only : ℕ → List ℕ
 only n = n ∷ []
+
+found : Bytes → List Bytes → List (List ℕ) → Example
+found h ds fs = within 6 h ds fs
+
+-- a tolerance, the work's only share, which is a writer's of PR, and what its header has
+small : ℕ → String → List ℕ → Example
+small t pr fs = within t (nwr []) (second (130 is pr ∷ []) ∷ []) (fs ∷ nothing ∷ [])
 
 examples : List Example
 examples =
@@ -71,6 +79,23 @@ examples =
     ∷ found (nwr []) (writer "SWR" (130 is "09993" ∷ []) ∷ []) (only 3 ∷ nothing ∷ [])
     ∷ found (nwr []) (writer "SWR" (138 is "09993" ∷ []) ∷ []) (only 3 ∷ nothing ∷ [])
     ∷ found (nwr []) (writer "SWR" (146 is "09993" ∷ []) ∷ []) (only 3 ∷ nothing ∷ [])
+    -- 2 lets pass the writers' PR of 0 to t and from 5000 - t on; of 3 the zero is exact, and MR and SR have no lower limit in 2
+    ∷ small 0 "00000" nothing
+    ∷ small 0 "00001" (2 ∷ 3 ∷ [])
+    ∷ small 0 "04999" (2 ∷ 3 ∷ [])
+    ∷ small 0 "05000" (only 3)
+    ∷ small 1 "00000" nothing
+    ∷ small 1 "00001" (only 3)
+    ∷ small 1 "00002" (2 ∷ 3 ∷ [])
+    ∷ small 1 "04998" (2 ∷ 3 ∷ [])
+    ∷ small 1 "04999" (only 3)
+    ∷ small 6 "00000" nothing
+    ∷ small 6 "00006" (only 3)
+    ∷ small 6 "00007" (2 ∷ 3 ∷ [])
+    ∷ small 6 "04993" (2 ∷ 3 ∷ [])
+    ∷ small 6 "04994" (only 3)
+    ∷ found (nwr []) (second (138 is "00007" ∷ []) ∷ []) (only 3 ∷ nothing ∷ [])
+    ∷ found (nwr []) (second (146 is "00007" ∷ []) ∷ []) (only 3 ∷ nothing ∷ [])
     ∷ found (nwr []) [] ((4 ∷ 5 ∷ []) ∷ [])
     ∷ found (nwr []) (writer "SWR" (105 is "AR" ∷ []) ∷ []) (only 5 ∷ nothing ∷ [])
     ∷ found (nwr (143 is "MOD" ∷ [])) (whole ∷ []) (only 6 ∷ nothing ∷ [])
@@ -131,5 +156,5 @@ examples =
     ∷ []
 
 all-examples : map computed examples ≡ map said examples
-unfolding examples computed said foundOn nothing only whole owner other second half spu rec nwr
+unfolding examples computed said foundOn small found nothing only whole owner other second half spu rec nwr
 all-examples = refl

@@ -15,3 +15,4 @@ pub mod Found
 pub mod OwnSets
 pub mod ReadOff
 pub mod First
+pub mod SmallChange

@@ -54,11 +54,11 @@ unfoldable pub numbersFrom : ℕ → List Bool → List ℕ
 numbersFrom n [] = []
 numbersFrom n (b ∷ bs) = cond b (n ∷ numbersFrom (suc n) bs) (numbersFrom (suc n) bs)
 
--- of a header and its details, in a group for NWR, with tolerance 6
-unfoldable pub foundOn : Bytes → List Bytes → List (List ℕ)
+-- of a header and its details, in a group for NWR, under the tolerance t
+unfoldable pub foundOn : ℕ → Bytes → List Bytes → List (List ℕ)
 unfolding numbersFrom made header publisher writer transactionFindings headerFindings fieldFindings ownFindings
     is0 is1 is2 is3 is4 is5 is6 is7 is8 is9 is10 is11 is12 is13 is14 is15 is16 is17 is18 is19 is20 is21 is22 is23 is24
     is25 is26 is27 is28 is29 is30 is31 is32 is33 is34 is35 is36 is37 is38 is39 is40 is41 is42 is43 is44 is45 is46
     fieldOf isBlank areDigits numberOf isIn entries areZeros isDate daysIn isDuration isIswc iswcSum shareOf badShare
     typeInForce earlierE designationInForce dateInForce durationInForce publishersTotal writersTotal inOrder spots stages begins chain
-foundOn h ds = map (numbersFrom 0) (transactionFindings listingTables 6 (ascii "NWR") (record { header = h; details = ds }))
+foundOn t h ds = map (numbersFrom 0) (transactionFindings listingTables t (ascii "NWR") (record { header = h; details = ds }))

@@ -20,7 +20,7 @@ data Says : Type 0 where
 
 computed : Starred → Says
 computed (value test text good) = valid (test (ascii text))
-computed (shares details sets) = found (foundOn (header "NWR" []) details)
+computed (shares details sets) = found (foundOn 6 (header "NWR" []) details)
 
 said : Starred → Says
 said (value test text good) = valid good
@@ -54,7 +54,7 @@ starred =
     ∷ shares (publishers "02503" "02504" (writers "04993")) ((1 ∷ 2 ∷ []) ∷ none ∷ none ∷ none ∷ [])  -- 10: 5007 and 4993
     ∷ shares (everything "09994") (none ∷ none ∷ [])  -- 11
     ∷ shares (everything "09993") ((3 ∷ []) ∷ none ∷ [])  -- 12
-    ∷ shares (writers "00003") ((2 ∷ 3 ∷ []) ∷ none ∷ [])  -- 13
+    ∷ shares (writers "00003") ((3 ∷ []) ∷ none ∷ [])  -- 13
     ∷ []
 
 all-starred : map computed starred ≡ map said starred

@@ -1,7 +1,8 @@
--- What is claimed of the outcome of a check, and of the first transaction to look at. proofs/Outcomes.antt and proofs/First.antt have the proofs.
+-- What is claimed of the outcome of a check, of the first transaction to look at, and of finding 2 beside 1 and 3. proofs/Outcomes.antt,
+-- proofs/First.antt and proofs/SmallChange.antt have the proofs.
 use Prim.Native.Nat.{ℕ, zero, suc, _*_, _≤_, _<_}
 use mathlib.Core.Path.{_≡_}
-use mathlib.Core.Bool.{Bool, true, false}
+use mathlib.Core.Bool.{Bool, true, false, _||_}
 use mathlib.Core.List.{List, [], _∷_, _++_, map}
 use mathlib.Core.Logic.{_↔_, _≢_}
 use lib.ListN.{length, take, drop}
@@ -16,6 +17,7 @@ use Rattle.format.specs.Claims.{Limits, Content, lengths, isStructural, Near}
 use Rattle.rules.specs.Tables.{Tables, languageSize, societySize, categorySize, rightTable}
 use Rattle.rules.specs.Values.{largestTolerance}
 use Rattle.rules.specs.Records.{any}
+use Rattle.rules.specs.Totals.{PR, writersTotal, is1, is3}
 use Rattle.rules.specs.Findings.{places}
 use Rattle.rules.specs.Works.{namedType, transactionFindings}
 use Rattle.rules.specs.Verdicts.{joined, findingBytes, fileFindings, fileVerdicts}
@@ -115,3 +117,10 @@ pub record Firsts : Type 0 where
       → ownSets tables t (content f) ≡ before ++ own ∷ after → any isGrave own ≡ false → first tables t f ≢ at (length before)
   -- its number is below that of the records
   pub near : (tables : Tables) (t : ℕ) (f : Bytes) (k : ℕ) → first tables t f ≡ at k → k < mostRecords
+
+-- ---- small change among the writers
+
+-- Where their total of PR is no more than the tolerance, finding 2 lets it pass, but unless it is 0 the publishers have too much (1) or all
+-- together too little (3).
+abbrev pub StillRejected : Type 0
+StillRejected = (t : ℕ) (ds : List Bytes) → t ≤ largestTolerance → 1 ≤ writersTotal PR ds → writersTotal PR ds ≤ t → (is1 t ds || is3 t ds) ≡ true

@@ -49,10 +49,10 @@ zeroOrFull t total = eqb total 0 || (leb (fullShare - t) total && leb total (ful
 unfoldable pub is1 : ℕ → List Bytes → Bool
 is1 t ds = exceeds t halfShare (publishersTotal PR ds) || exceeds t fullShare (publishersTotal MR ds) || exceeds t fullShare (publishersTotal SR ds)
 
--- T9, TR: the writers' total for PR is neither exactly 0 nor at least 5000, or that of any right is over 10000
+-- T9, TR: the writers' total for PR is neither 0 nor at least 5000, or that of any right is over 10000; the tolerance is for the zero too
 unfoldable pub is2 : ℕ → List Bytes → Bool
 is2 t ds =
-    not (eqb (writersTotal PR ds) 0 || leb (halfShare - t) (writersTotal PR ds))
+    not (leb (writersTotal PR ds) (0 + t) || leb (halfShare - t) (writersTotal PR ds))
     || exceeds t fullShare (writersTotal PR ds)
     || exceeds t fullShare (writersTotal MR ds)
     || exceeds t fullShare (writersTotal SR ds)

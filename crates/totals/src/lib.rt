@@ -93,13 +93,13 @@ impl Totals {
             | !Share::at_most(total.sr, Share::FULL, t)
     }
 
-    // Finding 2: the writers' total for performing rights is too low, or one of theirs is too high.
+    // Finding 2: the writers' total for performing rights is neither small change nor half, or one of theirs is too high.
     pub fn found_2(self, t: u64) -> bool
         requires { ⌜ t ≤ largestTolerance ⌝ }
         ensures { λ r. ⌜ ((ds : List Bytes) → Sums self ds → r ≡ is2 t ds) ⌝ }
     {
         let total = self.writers;
-        !((total.pr == 0) | Share::at_least(total.pr, Share::HALF, t))
+        !(Share::at_most(total.pr, 0, t) | Share::at_least(total.pr, Share::HALF, t))
             | !Share::at_most(total.pr, Share::FULL, t)
             | !Share::at_most(total.mr, Share::FULL, t)
             | !Share::at_most(total.sr, Share::FULL, t)
