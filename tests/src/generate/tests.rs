@@ -316,6 +316,45 @@ fn large_totals() {
     }
 }
 
+/// Writers' PR at each limit of finding 2 and one off it, with every tolerance:
+/// of one writer and of several, with a publisher and without.
+#[test]
+fn totals_of_writers() {
+    let mut made = HashSet::new();
+    for case in (each::FIRST..each::FIRST + each::number()).filter_map(case) {
+        if !case.kind.starts_with("each total, ") {
+            continue;
+        }
+        // Of each work: publishers, writers, and the writers' PR.
+        let mut works: Vec<[u64; 3]> = Vec::new();
+        for record in texts(&case.file) {
+            match (&record[..3], works.last_mut()) {
+                (b"NWR", _) => works.push([0; 3]),
+                (b"SPU", Some(work)) => work[0] += 1,
+                (b"SWR" | b"OWR", Some(work)) => {
+                    let share = std::str::from_utf8(&record[129..134]).unwrap();
+                    work[1] += 1;
+                    work[2] += share.parse::<u64>().unwrap();
+                }
+                _ => {}
+            }
+        }
+        for [publishers, writers, pr] in works {
+            made.insert((case.tolerance, publishers > 0, writers > 1, pr));
+        }
+    }
+    for t in 0..=6 {
+        for pr in [0, t, t + 1, 4999 - t, 5000 - t] {
+            for publisher in [false, true] {
+                for several in [false, true] {
+                    let work = (t, publisher, several, pr);
+                    assert!(made.contains(&work), "{work:?}");
+                }
+            }
+        }
+    }
+}
+
 #[test]
 fn a_run_is_wide() {
     let (mut damages, mut wrong_steps, mut ends) = (HashMap::new(), HashSet::new(), HashSet::new());

@@ -4,6 +4,7 @@
 use std::collections::HashMap;
 
 use tests::calls::Reply;
+use tests::reference::findings::transaction::finding_2_of;
 use tests::reference::values::in_table;
 
 use crate::asked::{Asked, Work};
@@ -98,21 +99,50 @@ fn totals_in(asked: &Asked, bits: u32) -> Reply {
         }
         let [publishers, writers] = totals;
         let t = asked.tolerance();
-        let over = |total: [u64; 3]| total.iter().any(|&sum| sum > 10_000 + t);
-        let short = writers[0] > 0 && writers[0] < 5000 - t;
+        let over = publishers.iter().any(|&sum| sum > 10_000 + t);
         let uneven = (0..3).any(|right| {
             let sum = lost(publishers[right] + writers[right]);
             sum > 0 && !(10_000 - t..=10_000 + t).contains(&sum)
         });
         let held = [
-            publishers[0] > 5000 + t || over(publishers),
-            short || over(writers),
+            publishers[0] > 5000 + t || over,
+            finding_2_of(writers, t),
             uneven,
         ];
         for (finding, held) in held.into_iter().enumerate() {
             sets[0] &= !(2 << finding);
             sets[0] |= u64::from(held) << (finding + 1);
         }
+    })
+}
+
+/// The total of a right over the records of these types.
+fn total(work: &Work, types: &[&str], right: usize) -> u64 {
+    let owners = work.iter().filter(|record| is(record, types));
+    owners
+        .map(|record| share(record, starts(record)[right]))
+        .sum()
+}
+
+/// Finding 2 with another rule, by PR and t, of what is as good as nothing.
+fn nothing_if(asked: &Asked, nothing: fn(u64, u64) -> bool) -> Reply {
+    asked.judged(|asked, work, sets| {
+        let [pr, mr, sr] = [0, 1, 2].map(|right| total(work, &WRITERS, right));
+        let t = asked.tolerance();
+        let pr = match nothing(pr, t) {
+            true => 0,
+            false => pr.max(t + 1),
+        };
+        sets[0] &= !(1 << 2);
+        sets[0] |= u64::from(finding_2_of([pr, mr, sr], t)) << 2;
+    })
+}
+
+/// Finding 2 with the least total of PR asked of another right as well.
+fn least_of(asked: &Asked, right: usize) -> Reply {
+    asked.judged(|asked, work, sets| {
+        let shares = [total(work, &WRITERS, right), 0, 0];
+        sets[0] |= u64::from(finding_2_of(shares, asked.tolerance())) << 2;
     })
 }
 
@@ -215,13 +245,34 @@ pub const FAULTS: &[Fault] = &[
             sets[0] |= u64::from(none) << 2;
         })
     }),
-    ("2-near-zero", |asked| {
-        // A total within the tolerance of 0 taken for 0.
+    ("2-exact-zero", |asked| nothing_if(asked, |pr, _| pr == 0)),
+    ("2-at-the-limit", |asked| {
+        nothing_if(asked, |pr, t| pr == 0 || pr < t)
+    }),
+    ("2-past-the-limit", |asked| {
+        nothing_if(asked, |pr, t| pr <= t + 1)
+    }),
+    ("2-always-6", |asked| nothing_if(asked, |pr, _| pr <= 6)),
+    ("2-each-writer", |asked| {
+        // Up to t is as good as nothing for each of them.
+        asked.as_if(&[2], |record| {
+            if is(record, &WRITERS) && share(record, 130) <= asked.tolerance() {
+                record[129..134].fill(b'0');
+            }
+        })
+    }),
+    ("2-mr-too", |asked| least_of(asked, 1)),
+    ("2-sr-too", |asked| least_of(asked, 2)),
+    ("3-near-zero", |asked| {
+        // Up to t is as good as nothing, as for 2.
         asked.judged(|asked, work, sets| {
-            let writers = work.iter().filter(|record| is(record, &WRITERS));
-            let pr: u64 = writers.map(|record| share(record, 130)).sum();
-            if pr <= asked.tolerance() {
-                sets[0] &= !(1 << 2);
+            let t = asked.tolerance();
+            let passes = |right| {
+                let sum = total(work, &PUBLISHERS, right) + total(work, &WRITERS, right);
+                sum <= t || (10_000 - t..=10_000 + t).contains(&sum)
+            };
+            if (0..3).all(passes) {
+                sets[0] &= !(1 << 3);
             }
         })
     }),

@@ -202,6 +202,23 @@ fn totals(all: &mut Vec<Case>) {
                 }
             }
         }
+        // Writers' PR, of one and of two together; without a publisher, and
+        // with one who has half or all the rest.
+        let t = tolerance as usize;
+        for pr in [0, t, t + 1, 4999 - t, 5000 - t] {
+            for shares in [vec![pr], vec![pr - pr / 2, pr / 2]] {
+                for of_publisher in [0, 5000, 10_000 - pr] {
+                    let mut work = vec![plain_work().remove(0)];
+                    if of_publisher > 0 {
+                        work.push(publisher("SPU", "E ", [of_publisher, 0, 0]));
+                    }
+                    for (name, &share) in ["SWR", "OWR"].into_iter().zip(&shares) {
+                        work.push(writer(name, "C ", [share, 0, 0]));
+                    }
+                    works.push(work);
+                }
+            }
+        }
         add(all, "total", tolerance, works);
     }
 }

@@ -55,13 +55,18 @@ fn finding_1(transaction: &Transaction) -> bool {
 /// T9: writers own less than half of PR, but not nothing, or more than all of
 /// some right.
 fn finding_2(transaction: &Transaction) -> bool {
-    let [pr, mr, sr] = of_writers(transaction);
-    let t = transaction.tolerance;
-    let enough = pr == 0 || pr >= HALF - t;
+    finding_2_of(of_writers(transaction), transaction.tolerance)
+}
+
+/// The same by their totals. Up to t of PR is as good as nothing, since T9's
+/// note on tolerance covers its 0 too (M-102).
+pub fn finding_2_of([pr, mr, sr]: [u64; 3], t: u64) -> bool {
+    let enough = pr <= t || pr >= HALF - t;
     !enough || [pr, mr, sr].iter().any(|&right| right > FULL + t)
 }
 
-/// T11: together they own neither nothing nor all of some right.
+/// T11: together they own neither nothing, here exactly 0, nor all of some
+/// right.
 fn finding_3(transaction: &Transaction) -> bool {
     let t = transaction.tolerance;
     let all = total([of_publishers(transaction), of_writers(transaction)].into_iter());

@@ -78,9 +78,11 @@ fn finding_2() {
         judge_within(tolerance, &work)[0].contains(&2)
     };
     assert!(!totals(6, [0, 0, 0]));
-    assert!(totals(6, [1, 0, 0]));
+    assert!(!totals(6, [6, 0, 0]));
+    assert!(totals(6, [7, 0, 0]));
     assert!(totals(6, [4993, 0, 0]));
     assert!(!totals(6, [4994, 0, 0]));
+    assert!(totals(0, [1, 0, 0]));
     assert!(totals(0, [4999, 0, 0]));
     assert!(!totals(0, [5000, 0, 0]));
     assert!(!totals(6, [10_006, 10_006, 10_006]));
@@ -88,7 +90,49 @@ fn finding_2() {
     assert!(totals(6, [0, 10_007, 0]));
     assert!(totals(0, [0, 0, 10_001]));
     // MR and SR have no least total.
-    assert!(!totals(6, [5000, 1, 1]));
+    for t in [0, 1, 6] {
+        for small in [0, 1, t, t + 1, 4999 - t, 5000 - t] {
+            for pr in [0, t, 5000] {
+                assert!(!totals(t.into(), [pr, small, 0]), "{pr}, {small}, {t}");
+                assert!(!totals(t.into(), [pr, 0, small]), "{pr}, {small}, {t}");
+            }
+            // And theirs does not make up for PR.
+            assert!(totals(t.into(), [t + 1, small, small]), "{small}, {t}");
+        }
+    }
+}
+
+/// Writers' PR at its limits: 2 takes up to t for nothing, 3 keeps its exact 0.
+#[test]
+fn finding_2_and_3() {
+    for t in [0, 1, 6] {
+        let small = if t == 0 { none() } else { vec![3] };
+        // The writers' total, and the header's findings: without a publisher,
+        // with one who has half, with one who has all the rest.
+        for (pr, alone, half, rest) in [
+            (0, none(), vec![3], vec![1]),
+            (t, small, vec![3], vec![1]),
+            (t + 1, vec![2, 3], vec![2, 3], vec![1, 2]),
+            (4999 - t, vec![2, 3], vec![2, 3], vec![1, 2]),
+            (5000 - t, vec![3], none(), none()),
+        ] {
+            // One writer's, and two writers' together.
+            for shares in [vec![pr], vec![pr - pr / 2, pr / 2]] {
+                let writers = ["SWR", "OWR"].into_iter().zip(shares);
+                let writers: Vec<_> = writers
+                    .map(|(name, share)| writer(name, [share, 0, 0], &[]))
+                    .collect();
+                let findings = |publishers: &[Vec<u8>]| {
+                    let work = [&[nwr("")], publishers, &writers].concat();
+                    judge_within(t.into(), &work)[0].clone()
+                };
+                let beside = |share| findings(&[publisher("SPU", [share, 0, 0], &[])]);
+                assert_eq!(findings(&[]), alone, "{pr}, {t}");
+                assert_eq!(beside(5000), half, "{pr}, {t}");
+                assert_eq!(beside(10_000 - pr), rest, "{pr}, {t}");
+            }
+        }
+    }
 }
 
 #[test]
@@ -108,6 +152,18 @@ fn finding_3() {
     assert!(totals(6, [5000, 1, 0], [5000, 0, 0]));
     assert!(totals(0, [5000, 0, 0], [5000, 0, 9999]));
     assert!(!totals(0, [5000, 0, 0], [5000, 0, 10_000]));
+    // Nothing is exactly 0, whatever the tolerance.
+    for tolerance in 0..=6 {
+        assert!(!totals(tolerance, [0; 3], [0; 3]));
+        for right in 0..3 {
+            for small in 1..=7 {
+                let mut shares = [0; 3];
+                shares[right] = small;
+                assert!(totals(tolerance, [0; 3], shares), "{small}, {tolerance}");
+                assert!(totals(tolerance, shares, [0; 3]), "{small}, {tolerance}");
+            }
+        }
+    }
 }
 
 #[test]

@@ -81,10 +81,13 @@ fn side_12_one_writer_beyond_tolerance() {
     assert_eq!(all_rights(9993), [3]);
 }
 
+/// As M-102 has it: 3 and not 2.
 #[test]
 fn side_13_writers_total_3() {
-    let writer = writer("SWR", [3, 0, 0], &[]);
-    assert_eq!(judge(&[nwr(""), writer])[0], [2, 3]);
+    let work = [nwr(""), writer("SWR", [3, 0, 0], &[])];
+    assert_eq!(judge(&work)[0], [3]);
+    // A smaller tolerance does not cover it.
+    assert_eq!(judge_within(2, &work)[0], [2, 3]);
 }
 
 #[test]
