@@ -11,7 +11,7 @@ const char *const right_names[RIGHTS] = {"PR", "MR", "SR"};
 #define ALL_OR_NOTHING {true, true, true, FULL, FULL}
 
 const struct range publishers_ranges[RIGHTS] = {PUBLISHERS_UP_TO(HALF), PUBLISHERS_UP_TO(FULL), PUBLISHERS_UP_TO(FULL)};
-const struct range writers_ranges[RIGHTS] = {{false, true, true, HALF, FULL}, WRITERS_UP_TO(FULL), WRITERS_UP_TO(FULL)};
+const struct range writers_ranges[RIGHTS] = {{false, true, false, HALF, FULL}, WRITERS_UP_TO(FULL), WRITERS_UP_TO(FULL)};
 const struct range together_ranges[RIGHTS] = {ALL_OR_NOTHING, ALL_OR_NOTHING, ALL_OR_NOTHING};
 
 static bool is_publisher(struct bytes record) {
@@ -64,7 +64,9 @@ struct range_words range_within(const struct range *range, uint64_t tolerance) {
         snprintf(to.words, sizeof to.words, "at most %s", most.words);
         return to;
     }
-    struct percent least = percent_of(range->least > tolerance ? range->least - tolerance : 0);
-    snprintf(to.words, sizeof to.words, "%s%s to %s", range->or_nothing ? "0.00%, or " : "", least.words, most.words);
+    struct percent least = percent_of(range->least > tolerance ? range->least - tolerance : 0), small = percent_of(tolerance);
+    bool from_nothing = tolerance > 0 && !range->exactly_nothing;
+    snprintf(to.words, sizeof to.words, "0.00%%%s%s, or %s to %s", from_nothing ? " to " : "", from_nothing ? small.words : "",
+             least.words, most.words);
     return to;
 }

@@ -20,7 +20,7 @@ struct shares {
 /* What a sum may come to when there is no tolerance. */
 struct range {
     bool of_publishers, of_writers; /* whose shares it is about */
-    bool or_nothing;                /* exactly nothing too */
+    bool exactly_nothing;           /* where the least is more, nothing will do too: exactly, or within the tolerance */
     uint64_t least, most;
 };
 
@@ -39,9 +39,9 @@ struct percent {
 
 struct percent percent_of(uint64_t hundredths);
 
-/* "at most 50.06%", "0.00%, or 99.94% to 100.06%" */
+/* "at most 50.06%", "0.00%, or 99.94% to 100.06%", "0.00% to 0.06%, or 49.94% to 100.06%" */
 struct range_words {
-    char words[96];
+    char words[128];
 };
 
 struct range_words range_within(const struct range *range, uint64_t tolerance);

@@ -39,8 +39,8 @@ static const struct finding findings[] = {
         "OPU, start 116, 124, 132).",
         {NO_FIELD}, POINTS_NOWHERE, publishers_ranges},
     [2] = {TR, "T9", NULL,
-        "The writers' shares do not fit: of PR exactly nothing or at least half less the tolerance, and of no right more than "
-        "all plus the tolerance (SWR and OWR, start 130, 138, 146).",
+        "The writers' shares do not fit: of PR nothing or at least half, and of no right more than all, each within the tolerance "
+        "(SWR and OWR, start 130, 138, 146).",
         {NO_FIELD}, POINTS_NOWHERE, writers_ranges},
     [3] = {TR, "T11", NULL,
         "Publishers and writers together own of some right (PR, MR or SR) neither exactly nothing nor, within the tolerance, "
