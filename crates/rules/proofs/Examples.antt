@@ -54,6 +54,7 @@ nothing = []
 only : ℕ → List ℕ
 only n = n ∷ []
 
+-- under the tolerance 6
 found : Bytes → List Bytes → List (List ℕ) → Example
 found h ds fs = within 6 h ds fs
 

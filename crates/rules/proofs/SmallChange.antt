@@ -9,7 +9,7 @@ use Rattle.rules.specs.Values.{fullShare, halfShare}
 use Rattle.rules.specs.Totals.{PR, publishersTotal, writersTotal, is1, is3}
 use Rattle.rules.specs.Claims.{StillRejected}
 
--- the publishers have at most half and 6, so that all together have something, and less than the whole
+-- where the publishers keep to half and the tolerance, all together have something, and too little
 still-rejected : StillRejected
 unfolding is1 is3
 still-rejected t ds few some small =

@@ -9,7 +9,8 @@ use Rattle.format.specs.Bytes.{Bytes}
 use Rattle.rules.specs.Values.{isDate, isDuration, isIswc}
 use Rattle.rules.proofs.Made.{_is_, header, publisher, writer, foundOn}
 
--- a test, a field's text and whether it is valid; or the details of a work and the findings that each of its records has, all of them
+-- a test, a field's text and whether it is valid; or the details of a work and the findings that each of its records has under the
+-- tolerance 6, all of them
 data Starred : Type 0 where
   value : (Bytes → Bool) → String → Bool → Starred
   shares : List Bytes → List (List ℕ) → Starred

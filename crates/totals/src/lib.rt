@@ -93,7 +93,7 @@ impl Totals {
             | !Share::at_most(total.sr, Share::FULL, t)
     }
 
-    // Finding 2: the writers' total for performing rights is neither small change nor half, or one of theirs is too high.
+    // Finding 2: the writers' total for performing rights is more than small change and less than half, or one of theirs is too high.
     pub fn found_2(self, t: u64) -> bool
         requires { ⌜ t ≤ largestTolerance ⌝ }
         ensures { λ r. ⌜ ((ds : List Bytes) → Sums self ds → r ≡ is2 t ds) ⌝ }
