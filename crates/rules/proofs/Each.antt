@@ -16,8 +16,8 @@ use Rattle.format.proofs.Lines.{lines-pairs}
 use Rattle.format.proofs.Answers.{file-read}
 use Rattle.format.proofs.At22.{grows-22}
 use Rattle.rules.specs.Tables.{Tables}
-use Rattle.rules.specs.Findings.{larger, worst}
-use Rattle.rules.specs.Works.{namedType, detailsFrom, transactionFindings}
+use Rattle.rules.specs.Findings.{fieldFindings, ownFindings, larger, worst}
+use Rattle.rules.specs.Works.{namedType, headerFindings, detailsFrom, transactionFindings}
 use Rattle.rules.specs.Verdicts.{joined, raised, groupFindings, fileFindings, transactionVerdicts, groupVerdicts, fileVerdicts}
 use Rattle.rules.specs.Outcome.{content}
 
@@ -60,7 +60,16 @@ length-raised least verdicts = length-map verdicts (larger least)
 -- ---- findings and verdicts
 
 module _ (tables : Tables) (t : ℕ) where
-  each-detail : (before ds : List Bytes) → length (detailsFrom tables before ds) ≡ length ds
+  -- a set has a place for each finding
+  pub own-long : (before : List Bytes) (r : Bytes) → length (ownFindings tables before r) ≡ 47
+  unfolding fieldFindings ownFindings
+  own-long before r = refl
+
+  pub header-long : (named : Bytes) (x : Transaction) → length (headerFindings tables t named x) ≡ 47
+  unfolding headerFindings fieldFindings
+  header-long named x = refl
+
+  pub each-detail : (before ds : List Bytes) → length (detailsFrom tables before ds) ≡ length ds
   each-detail before [] = refl
   each-detail before (r ∷ rs) = ap suc (each-detail (before ++ r ∷ []) rs)
 

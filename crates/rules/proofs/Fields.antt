@@ -13,7 +13,7 @@ use Rattle.format.specs.Fields.{fieldOf, isDigit, areDigits, digit, numberFrom,
 use Rattle.rules.specs.Values.{shareOf}
 use Rattle.rules.specs.Chains.{allShares}
 
-field-short : (start size : ℕ) (r : Bytes) → length (fieldOf start size r) ≤ size
+pub field-short : (start size : ℕ) (r : Bytes) → length (fieldOf start size r) ≤ size
 unfolding fieldOf
 field-short start size r = rw length-take (omega arith)
 
@@ -38,7 +38,7 @@ unfolding numberOf
 number-below f = omega (arith, number-from-below 0 f)
 
 -- a share of five bytes at most
-share-most : (f : Bytes) → length f ≤ 5 → shareOf f ≤ 99999
+pub share-most : (f : Bytes) → length f ≤ 5 → shareOf f ≤ 99999
 unfolding shareOf
 share-most f h = most (areDigits f) (omega (arith, number-below f, pow-le-pow-right {n = 10} (lit< tt) {i = length f} {j = 5} h))
   where

@@ -22,16 +22,16 @@ use Rattle.rules.proofs.Made.{_is_, made, header, writer, foundOn}
 
 -- ---- a file with each of the five verdicts
 
-opening : String → Bytes
+unfoldable pub opening : String → Bytes
 opening number = made "GRH" 28 (4 is "NWR" ∷ 7 is number ∷ [])
 
-closing : String → Bytes
+unfoldable pub closing : String → Bytes
 closing numbers = made "GRT" 37 (4 is numbers ∷ [])
 
-opens : Bytes
+unfoldable pub opens : Bytes
 opens = made "HDR" 167 (102 is "2.2002" ∷ [])
 
-ends : String → Bytes
+unfoldable pub ends : String → Bytes
 ends numbers = made "TRL" 24 (4 is numbers ∷ [])
 
 -- an ISWC with a wrong digit is defaulted, SWR is accepted and TER rejected
@@ -42,7 +42,8 @@ mild =
     ∷ made "TER" 24 (4 is "0000000000000002" ∷ [])
     ∷ []
 
-fileB : Bytes
+unfoldable pub fileB : Bytes
+unfolding opens opening mild closing ends
 fileB =
     unlines
     (opens
@@ -186,7 +187,8 @@ fileC : Bytes
 fileC = unlines (opens ∷ opening "00001" ∷ mild ++ closing "000010000000100000005" ∷ ends "000010000000100000007" ∷ [])
 
 -- and in a second group a REV, which falls with the NWR before it that has no finding
-fileD : Bytes
+unfoldable pub fileD : Bytes
+unfolding opens opening mild closing ends
 fileD =
     unlines
     (opens

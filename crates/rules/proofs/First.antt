@@ -2,14 +2,13 @@
 use Prim.Native.Nat.{ℕ, _≤_, _<_}
 use native.Mathlib.Omega.{arith}
 use mathlib.Core.Path.{_≡_, refl, sym, ap, _∙_, subst}
-use mathlib.Core.Logic.{_≢_}
-use mathlib.Core.Bool.{Bool, true, false, false≢true}
+use mathlib.Core.Bool.{Bool, false≢true}
 use mathlib.Core.Option.{Option, none, some}
 use mathlib.Core.List.{List, _∷_}
 use lib.ListN.{length, length-append}
 use Rattle.format.specs.Bytes.{Bytes}
 use Rattle.format.specs.Tree.{Tree}
-use Rattle.format.specs.Structure.{Answer, refused, passed, refusal, unless, mostRecords}
+use Rattle.format.specs.Structure.{Answer, refused, passed, mostRecords}
 use Rattle.format.specs.Lent.{inRoom}
 use Rattle.format.specs.Claims.{Near}
 use Rattle.format.proofs.Answers.{By, refused-by}
@@ -20,7 +19,7 @@ use Rattle.rules.specs.Outcome.{enough, admission, answer, content, chec
 use Rattle.rules.specs.First.{isGrave, ofEach, firstAt, firstRejected, refusedAs, nothing, at, seen, letIn, first}
 use Rattle.rules.specs.Claims.{setsIn, ownSets, Firsts}
 use Rattle.rules.proofs.Each.{findings-all, findings-each}
-use Rattle.rules.proofs.Outcomes.{admitted, admission-near, admission-by, passed-admitted, checks}
+use Rattle.rules.proofs.Outcomes.{admitted, admission-near, admission-by, room-else, passed-admitted, checks}
 use Rattle.rules.proofs.Found.{Found, Searched, searched, own-passes}
 use Rattle.rules.proofs.OwnSets.{own-sets, grave-file, few-own}
 use Rattle.rules.proofs.ReadOff.{small-file, same-first}
@@ -46,15 +45,6 @@ let-at : (x : Answer) (o : Option ℕ) (k : ℕ) → letIn x o ≡ at k → (g :
 let-at (refused n i) o k e = let z : _≡_ {A = ℕ} 0 1 = cc in absurd (omega arith)
 let-at (passed g m n) none k e = let z : _≡_ {A = ℕ} 0 1 = cc in absurd (omega arith)
 let-at (passed g m n) (some j) k e = (g, m, n, refl, cc)
-
--- 11 alone comes after what the admission says
-room-other : (n i : ℕ) → n ≢ 11 → (room : ℕ → Bool) (a : Answer) → inRoom room a ≡ refused n i → a ≡ refused n i
-room-other n i h room (refused k j) e = e
-room-other n i h room (passed g m r) e = go (room r) e
-  where
-    go : (b : Bool) → refusal 11 (unless b 0) (passed g m r) ≡ refused n i → passed g m r ≡ refused n i
-    go true q = q
-    go false q = let same : n ≡ 11 = cc in absurd (h same)
 
 module _ (tables : Tables) (t : ℕ) (f : Bytes) where
   abbrev pub sets : List (List Bool)
@@ -117,7 +107,8 @@ firsts = record {
       let (n, i, x, b) = let-refused (admission tables t f) (found tables t f) a e in
       ap (inRoom (enough (length v) (length g))) x ∙ sym b;
   as-refused = λ tables t f v g n i e h.
-      first-refused tables t f n i (room-other n i h (enough (length v) (length g)) (admission tables t f) e);
+      first-refused tables t f n i
+      (room-else (enough (length v) (length g)) (admission tables t f) (refused n i) e (λ q. let same : n ≡ 11 = cc in h same));
   never-11 = λ tables t f a e.
       let (n, i, x, b) = let-refused (admission tables t f) (found tables t f) a e in
       let (low, high) = refused-by (λ k. (1 ≤ k) × (k ≤ 10)) n i (by-1-to-10 tables t f) x in

@@ -5,7 +5,8 @@ use mathlib.Core.List.{List, [], _∷_, _++_, append-assoc, append-nil}
 use Prim.Native.Nat.{ℕ, _*_}
 use native.Mathlib.Omega.{arith}
 use lib.ListN.{length, length-append}
-use Rattle.format.specs.Bytes.{bytesOf}
+use Rattle.format.specs.Bytes.{All, bytesOf}
+use Rattle.format.proofs.Logic.{All-append}
 use Rattle.format.proofs.Decimal.{length-bytes}
 use Rattle.rules.specs.Findings.{setOf}
 use Rattle.rules.specs.Verdicts.{joined, findingBytes}
@@ -22,6 +23,11 @@ module _ {A B : Type 0} (f : A → List B) where
   pub length-joined : (w : ℕ) → ((x : A) → length (f x) ≡ w) → (xs : List A) → length (joined f xs) ≡ w * length xs
   length-joined w e [] = omega arith
   length-joined w e (x ∷ xs) = length-append (f x) (joined f xs) ∙ omega (arith, e x, length-joined w e xs)
+
+-- what holds of each element of each holds of all
+pub joined-all : {A B : Type 0} (P : B → Type 0) (f : A → List B) → ((x : A) → All P (f x)) → (xs : List A) → All P (joined f xs)
+joined-all P f h [] = tt
+joined-all P f h (x ∷ xs) = All-append P (f x) (joined f xs) (h x) (joined-all P f h xs)
 
 pub findings-one : (set : List Bool) → findingBytes (set ∷ []) ≡ bytesOf 8 (setOf set)
 unfolding findingBytes

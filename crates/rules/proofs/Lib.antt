@@ -16,3 +16,8 @@ pub mod OwnSets
 pub mod ReadOff
 pub mod First
 pub mod SmallChange
+pub mod Counts
+pub mod Together
+pub mod Room
+pub mod Sheets
+pub mod SheetExamples

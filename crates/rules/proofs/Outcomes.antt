@@ -84,6 +84,15 @@ module _ (tables : Tables) (t : ℕ) (f : Bytes) where
 
 -- ---- and 11
 
+-- it alone comes after what the admission says
+pub room-else : (room : ℕ → Bool) (b a : Answer) → inRoom room b ≡ a → a ≢ refused 11 0 → b ≡ a
+room-else room (refused n i) a e h = e
+room-else room (passed g m n) a e h = go (room n) e
+  where
+    go : (b : Bool) → refusal 11 (unless b 0) (passed g m n) ≡ a → passed g m n ≡ a
+    go true q = q
+    go false q = absurd (h (sym q))
+
 module _ (tables : Tables) (t : ℕ) (f v g : Bytes) where
   abbrev given : Answer
   given = answer tables t f (length v) (length g)

@@ -23,7 +23,7 @@ any-joined f [] = refl
 any-joined f (x ∷ xs) = any-append isGrave (f x) (joined f xs) ∙ ap (λ b. any isGrave (f x) || b) (any-joined f xs)
 
 -- a header stands for each transaction
-few-transactions : (xs : List Transaction) → length xs ≤ recordsT xs
+pub few-transactions : (xs : List Transaction) → length xs ≤ recordsT xs
 few-transactions [] = omega arith
 few-transactions (x ∷ xs) = omega (arith, few-transactions xs)
 

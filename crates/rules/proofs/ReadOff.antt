@@ -17,6 +17,7 @@ use Rattle.rules.specs.Works.{namedType, headerFindings, detailsFrom, tr
 use Rattle.rules.specs.Verdicts.{joined, findingBytes, groupFindings, fileFindings}
 use Rattle.rules.specs.First.{isGrave, ofEach, firstAt, firstRejected}
 use Rattle.rules.specs.Claims.{setsIn}
+use Rattle.rules.proofs.Joined.{joined-all}
 use Rattle.rules.proofs.Bits.{places-set, worst-padded, places-bytes}
 use Rattle.rules.proofs.Found.{first-map, any-map, each-map}
 
@@ -28,10 +29,6 @@ Fits set = length set ≤ 64
 
 abbrev Small : List (List Bool) → Type 0
 Small = All Fits
-
-small-joined : {A : Type 0} (f : A → List (List Bool)) → ((x : A) → Small (f x)) → (xs : List A) → Small (joined f xs)
-small-joined f h [] = tt
-small-joined f h (x ∷ xs) = All-append Fits (f x) (joined f xs) (h x) (small-joined f h xs)
 
 module _ (tables : Tables) (t : ℕ) where
   small-details : (before ds : List Bytes) → Small (detailsFrom tables before ds)
@@ -47,13 +44,13 @@ module _ (tables : Tables) (t : ℕ) where
   unfolding groupFindings
   small-group g =
       let f = transactionFindings tables t (namedType (g .opening)) in
-      (omega arith, All-append Fits (joined f (g .transactions)) ([] ∷ []) (small-joined f (small-transaction _) (g .transactions)) (omega arith, tt))
+      (omega arith, All-append Fits (joined f (g .transactions)) ([] ∷ []) (joined-all Fits f (small-transaction _) (g .transactions)) (omega arith, tt))
 
   pub small-file : (d : Tree) → Small (fileFindings tables t d)
   unfolding fileFindings
   small-file d =
       let f = groupFindings tables t in
-      (omega arith, All-append Fits (joined f (d .groups)) ([] ∷ []) (small-joined f small-group (d .groups)) (omega arith, tt))
+      (omega arith, All-append Fits (joined f (d .groups)) ([] ∷ []) (joined-all Fits f small-group (d .groups)) (omega arith, tt))
 
 -- ---- read back
 

@@ -1,13 +1,15 @@
--- What is claimed of the outcome of a check, of the first transaction to look at, and of finding 2 beside 1 and 3. proofs/Outcomes.antt,
--- proofs/First.antt and proofs/SmallChange.antt have the proofs.
-use Prim.Native.Nat.{ℕ, zero, suc, _*_, _≤_, _<_}
+-- What is claimed of the outcome of a check, of the first transaction to look at, of finding 2 beside 1 and 3, and of the catalogue sheet.
+-- proofs/Outcomes.antt, proofs/First.antt, proofs/SmallChange.antt and proofs/Sheets.antt have the proofs.
+use Prim.Native.Nat.{ℕ, zero, suc, _+_, _*_, _^_, _≤_, _<_}
 use mathlib.Core.Path.{_≡_}
 use mathlib.Core.Bool.{Bool, true, false, _||_}
-use mathlib.Core.List.{List, [], _∷_, _++_, map}
+use mathlib.Core.List.{List, [], _∷_, _++_, map, Perm}
 use mathlib.Core.Logic.{_↔_, _≢_}
-use lib.ListN.{length, take, drop}
+use lib.ListN.{length, take, drop, replicate}
+use lib.IntN.{ℤ, pos}
+use lib.Signed.{mag}
 use lib.Dec.{T}
-use Rattle.format.specs.Bytes.{Bytes, pairs}
+use Rattle.format.specs.Bytes.{Bytes, All, pairs}
 use Rattle.format.specs.Doc.{Doc, Group, write}
 use Rattle.format.specs.Cwr22.{cwr22}
 use Rattle.format.specs.WellFormed.{WellFormed}
@@ -23,6 +25,7 @@ use Rattle.rules.specs.Works.{namedType, transactionFindings}
 use Rattle.rules.specs.Verdicts.{joined, findingBytes, fileFindings, fileVerdicts}
 use Rattle.rules.specs.Outcome.{Outcome, check, content, shortTolerance}
 use Rattle.rules.specs.First.{isGrave, ofEach, firstRejected, refusedAs, nothing, at, seen, first}
+use Rattle.rules.specs.Sheet.{Taken, sheetTolerance, answerTo, Missed, Sheet, sheetOf, mostFiles, add}
 
 -- what is lent beside the file is in order: tolerance and tables (1, 2), and a buffer entry for each record, the text before a CR LF (11)
 pub record InOrder (tables : Tables) (t : ℕ) (f v g : Bytes) : Type 0 where
@@ -124,3 +127,59 @@ pub record Firsts : Type 0 where
 -- together too little (3).
 abbrev pub StillRejected : Type 0
 StillRejected = (t : ℕ) (ds : List Bytes) → t ≤ largestTolerance → 1 ≤ writersTotal PR ds → writersTotal PR ds ≤ t → (is1 t ds || is3 t ds) ≡ true
+
+-- ---- the catalogue sheet
+
+-- the figures that have no sign, and those that have one
+abbrev pub figuresOf : Missed → List ℕ
+figuresOf m = m .transactions ∷ m .shortfall ∷ m .excess ∷ []
+
+abbrev pub unsigned : Sheet → List ℕ
+unsigned s = s .files ∷ s .refused ∷ figuresOf (s .pr) ++ figuresOf (s .mr) ++ figuresOf (s .sr) ++ s .findings ++ s .verdicts
+
+abbrev pub signed : Sheet → List ℤ
+signed s = s .pr .sum ∷ s .mr .sum ∷ s .sr .sum ∷ []
+
+-- with one file more that is refused
+abbrev pub withRefused : Sheet → Sheet
+withRefused s = record {
+  files = suc (s .files);
+  refused = suc (s .refused);
+  pr = s .pr;
+  mr = s .mr;
+  sr = s .sr;
+  findings = s .findings;
+  verdicts = s .verdicts;
+}
+
+abbrev pub sum : List ℕ → ℕ
+sum [] = 0
+sum (n ∷ ns) = n + sum ns
+
+-- how many records a file has that passes
+abbrev pub recordsTold : Answer → ℕ
+recordsTold (refused n i) = 0
+recordsTold (passed g m n) = n
+
+pub record Sheets : Type 0 where
+  -- of no file all figures are 0, the largest too
+  pub fresh : (unsigned (sheetOf []) ≡ replicate 80 0) × (signed (sheetOf []) ≡ replicate 3 (pos 0))
+  -- a sheet that files have made is, with one file more, that of the list with it,
+  pub one-more : (xs : List Taken) (x : Taken) → length xs < mostFiles
+      → add (sheetOf xs) x ≡ record { answer = answerTo x; sheet = sheetOf (xs ++ x ∷ []) }
+  -- until it is full: then, and only then, it is refused by 12 and left as it is
+  pub full : (s : Sheet) (x : Taken) → mostFiles ≤ s .files → add s x ≡ record { answer = refused 12 0; sheet = s }
+  pub only-full : (s : Sheet) (x : Taken) (i : ℕ) → add s x .answer ≡ refused 12 i → mostFiles ≤ s .files
+  -- else the answer is that of a check with tolerance 6, but for 11, which it never is, nor 1
+  pub as-checked : (x : Taken) (v g : Bytes) (a : Answer) → check (x .tables) sheetTolerance (x .file) v g .answer ≡ a → a ≢ refused 11 0
+      → answerTo x ≡ a
+  pub numbers : (x : Taken) (n i : ℕ) → answerTo x ≡ refused n i → (2 ≤ n) × (n ≤ 10)
+  -- a file that is refused adds one to the files and one to those refused, and nothing else
+  pub refused-only : (xs : List Taken) (x : Taken) (n i : ℕ) → answerTo x ≡ refused n i
+      → sheetOf (xs ++ x ∷ []) ≡ withRefused (sheetOf xs)
+  -- the five verdicts' counts come to the records of the files that passed
+  pub adds-up : (xs : List Taken) → sum (sheetOf xs .verdicts) ≡ sum (map (λ (x : Taken). recordsTold (answerTo x)) xs)
+  -- the order of the files does not matter
+  pub any-order : (xs ys : List Taken) → Perm xs ys → sheetOf xs ≡ sheetOf ys
+  -- and whatever the files are, each figure has room in 64 bits, with its sign
+  pub fits : (xs : List Taken) → length xs ≤ mostFiles → All (λ n. n < 2 ^ 64) (unsigned (sheetOf xs)) × All (λ z. mag z < 2 ^ 63) (signed (sheetOf xs))

@@ -14,5 +14,6 @@ pub mod Works
 pub mod Verdicts
 pub mod Outcome
 pub mod First
+pub mod Sheet
 pub mod Listing
 pub mod Claims
