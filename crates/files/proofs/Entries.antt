@@ -15,7 +15,7 @@ pub nothing : 0 ≡ setOf []
 unfolding setOf
 nothing = refl
 
-joined-last : {A B : Type 0} (f : A → List B) (xs : List A) (x : A) → joined f (xs ++ x ∷ []) ≡ joined f xs ++ f x
+pub joined-last : {A B : Type 0} (f : A → List B) (xs : List A) (x : A) → joined f (xs ++ x ∷ []) ≡ joined f xs ++ f x
 joined-last f xs x = joined-append f xs (x ∷ []) ∙ ap (λ l. joined f xs ++ l) (joined-one f x)
 
 -- one part more

@@ -1,7 +1,6 @@
 -- Every set of findings in a file has at most 64 places, so that its eight bytes hold it. Assumes nothing.
 use Prim.Native.Nat.{ℕ, _≤_}
 use native.Mathlib.Omega.{arith}
-use mathlib.Core.Path.{_≡_, refl}
 use mathlib.Core.Bool.{Bool}
 use mathlib.Core.List.{List, [], _∷_, _++_}
 use lib.ListN.{length}
@@ -9,9 +8,9 @@ use Rattle.format.specs.Bytes.{Bytes, All}
 use Rattle.format.specs.Doc.{Doc, Group, Transaction}
 use Rattle.format.proofs.Logic.{All-append}
 use Rattle.rules.specs.Tables.{Tables}
-use Rattle.rules.specs.Findings.{fieldFindings, ownFindings}
-use Rattle.rules.specs.Works.{namedType, headerFindings, detailsFrom, transactionFindings}
+use Rattle.rules.specs.Works.{namedType, detailsFrom, transactionFindings}
 use Rattle.rules.specs.Verdicts.{joined, groupFindings, fileFindings}
+use Rattle.rules.proofs.Each.{own-long, header-long}
 
 abbrev pub Small : List (List Bool) → Type 0
 Small sets = All (λ set. length set ≤ 64) sets
@@ -24,21 +23,13 @@ between : (ss : List (List Bool)) → Small ss → Small ([] ∷ ss ++ [] ∷ []
 between ss h = (omega arith, append ss ([] ∷ []) h (omega arith, tt))
 
 module _ (tables : Tables) (t : ℕ) where
-  own-long : (before : List Bytes) (r : Bytes) → length (ownFindings tables before r) ≡ 47
-  unfolding fieldFindings ownFindings
-  own-long before r = refl
-
-  header-long : (named : Bytes) (x : Transaction) → length (headerFindings tables t named x) ≡ 47
-  unfolding headerFindings fieldFindings
-  header-long named x = refl
-
   small-details : (before ds : List Bytes) → Small (detailsFrom tables before ds)
   small-details before [] = tt
-  small-details before (r ∷ ds) = (omega (arith, own-long before r), small-details (before ++ r ∷ []) ds)
+  small-details before (r ∷ ds) = (omega (arith, own-long tables t before r), small-details (before ++ r ∷ []) ds)
 
   small-transaction : (named : Bytes) (x : Transaction) → Small (transactionFindings tables t named x)
   unfolding transactionFindings
-  small-transaction named x = (omega (arith, header-long named x), small-details [] (x .details))
+  small-transaction named x = (omega (arith, header-long tables t named x), small-details [] (x .details))
 
   small-joined : {A : Type 0} (of : A → List (List Bool)) → ((x : A) → Small (of x)) → (xs : List A) → Small (joined of xs)
   small-joined of each [] = tt

@@ -3,6 +3,7 @@
 use findings::TR;
 use kinds::HEAD;
 use transactions::Passed;
+use transactions::Purpose;
 ghost use mathlib.Core.Path.{_≡_};
 ghost use Prim.Native.Nat.{_+_, _≤_};
 ghost use lib.ListN.{length};
@@ -49,14 +50,18 @@ fn search_transaction(
 {
     let mut no_verdicts: [u8; 1] = [0; 1];
     let mut no_findings: [u8; 1] = [0; 1];
+    let mut no_carriers: [u64; 1] = [0; 1];
+    let mut no_levels: [u64; 1] = [0; 1];
     let d = transactions::judge_details(
         file,
         at + kinds::HEADER_LENGTH as usize + 2,
         index + 1,
         slots,
-        true,
+        Purpose::Search,
         &mut no_verdicts[0..0],
         &mut no_findings[0..0],
+        &mut no_carriers[0..0],
+        &mut no_levels[0..0],
     );
     if d.rejects {
         return InTransaction::Grave;

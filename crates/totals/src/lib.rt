@@ -8,7 +8,7 @@ ghost use Prim.Native.Nat.{ℕ, _+_, _^_, _≤_};
 ghost use Rattle.format.specs.Bytes.{Bytes};
 ghost use Rattle.rules.specs.Values.{largestTolerance};
 ghost use Rattle.rules.specs.Records.{isPublisher, isWriter};
-ghost use Rattle.rules.specs.Totals.{publisherShare, writerShare, zeroOrFull, is1, is2, is3};
+ghost use Rattle.rules.specs.Totals.{publisherShare, writerShare, wholeTotal, zeroOrFull, is1, is2, is3};
 ghost use Rattle.totals.specs.Sums.{rights, plus, AtMost, Sums, Below};
 
 // Shares of the three rights, in hundredths of a percent: one record's, or a total.
@@ -82,6 +82,15 @@ impl Totals {
         self
     }
 
+    // Of all four kinds of record together.
+    pub fn whole(self) -> Rights
+        requires { ⌜ Below (2 ^ 60) self ⌝ }
+        ensures { λ r. ⌜ ((ds : List Bytes) → Sums self ds → r ≡ rights (λ right. wholeTotal right ds)) ⌝ }
+        ensures { λ r. ⌜ ((k : ℕ) → Below k self → AtMost (k + k) r) ⌝ }
+    {
+        self.publishers.with(self.writers)
+    }
+
     // Finding 1: the publishers' totals are too high.
     pub fn found_1(self, t: u64) -> bool
         requires { ⌜ t ≤ largestTolerance ⌝ }
@@ -110,7 +119,7 @@ impl Totals {
         requires { ⌜ (t ≤ largestTolerance) × Below (2 ^ 60) self ⌝ }
         ensures { λ r. ⌜ ((ds : List Bytes) → Sums self ds → r ≡ is3 t ds) ⌝ }
     {
-        let total = self.publishers.with(self.writers);
+        let total = self.whole();
         !(zero_or_full(total.pr, t) & zero_or_full(total.mr, t) & zero_or_full(total.sr, t))
     }
 }

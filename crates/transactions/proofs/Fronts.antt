@@ -29,7 +29,9 @@ use Rattle.buffers.proofs.Entries.{first as before-others}
 use Rattle.totals.specs.Sums.{Below}
 use Rattle.tally.proofs.Laws.{below-limits}
 use Rattle.transactions.specs.declared.Details.{Details}
-use Rattle.transactions.specs.Walk.{PastDetails, Filled, DoneDetails, FilledTransaction}
+use Rattle.transactions.specs.Walk.{PastDetails, Filled, FilledTransaction}
+use Rattle.transactions.specs.declared.Purpose.the-variants.{Write}
+use Rattle.transactions.specs.Purposes.{DoneDetails}
 use Rattle.transactions.proofs.Entries.{filled-raised}
 use Rattle.transactions.proofs.Sizes.{transaction-header, long}
 use Rattle.transactions.proofs.Gone.{length-parted}
@@ -61,8 +63,8 @@ past-below {rs = rs} {d} past few =
 -- ---- its entries, once its details and its header are written and raised
 
 pub filled-whole : (tables : Tables) (t : ℕ) (named : Bytes) (x : Transaction) {i n : ℕ} {rejected : Bool} {h : Head}
-    → {v₀ g₀ v₁ g₁ v₂ g₂ ys : Bytes} {least : ℕ}
-    → DoneDetails false tables (i + 1) n (x .details) rejected v₀ g₀ v₁ g₁ → Headed tables t named x h
+    → {v₀ g₀ v₁ g₁ v₂ g₂ ys : Bytes} {fs₀ vs₀ fs vs : List ℕ} {least : ℕ}
+    → DoneDetails Write tables (i + 1) n (x .details) rejected v₀ g₀ fs₀ vs₀ v₁ g₁ fs vs → Headed tables t named x h
     → Written i (h .level ∷ []) (headerFindings tables t named x ∷ []) v₁ g₁ v₂ g₂
     → least ≡ cond (h .rejects || rejected) 3 0 → ys ≡ raised least (take (n - i) (drop i v₂))
     → FilledTransaction tables t named i n x v₀ g₀ (putMid i (n - i) v₂ ys) g₂
@@ -71,5 +73,5 @@ filled-whole tables t named x {i} {n} {h = h} {v₀} {g₀} {v₂ = v₂} {g₂}
     let sets = detailsFrom tables [] (x .details) in
     let own = headerFindings tables t named x in
     let both : Filled i n (h .level ∷ map worst sets) (own ∷ sets) v₀ g₀ v₂ g₂ =
-    record { end = details .filled refl .end ∙ omega arith; written = before-others (details .filled refl .written) w } in
+    record { end = details .done .0 .end ∙ omega arith; written = before-others (details .done .0 .written) w } in
     rw (l, headed .rejects, details .rejects, headed .level) at (filled-raised both least {ys = ys} y)

@@ -103,11 +103,15 @@ module _ {f : Bytes} {m start : ℕ} {claim : List Bytes → Type 0} {c : Chains
   pub numbered : m ≤ mostRecords → w .index < mostRecords
   numbered few = omega (arith, few, position .left, ap length left)
 
+  -- they are no more than the records from the start on
+  pub among-all : length ds ≤ length (restAt f start)
+  among-all =
+      let split = ap length (gone .going .split) ∙ length-append ds (span (isDetail cwr22) (restAt f (w .at))) in
+      omega (arith, split, length-parted (isDetail cwr22) (restAt f start))
+
   module _ (few : length (restAt f start) ≤ mostRecords) where
     fewer : length ds ≤ mostRecords
-    fewer =
-        let split = ap length (gone .going .split) ∙ length-append ds (span (isDetail cwr22) (restAt f (w .at))) in
-        omega (arith, few, split, length-parted (isDetail cwr22) (restAt f start))
+    fewer = omega (arith, few, among-all)
 
     pub below : Below (2 ^ 60) (w .tally .totals)
     below = below-limits (w .tally .totals) ds fewer (known .below)

@@ -5,3 +5,4 @@ pub mod Laws
 pub mod Standing
 pub mod Gone
 pub mod Fronts
+pub mod Purposes

@@ -1,7 +1,7 @@
 -- Internal: a walk over the records of a file: where it stands, what it knows of a transaction, and what it has written.
 use mathlib.Core.Path.{_≡_}
-use mathlib.Core.Bool.{Bool, true, false}
-use mathlib.Core.List.{List, [], _∷_, _++_, map}
+use mathlib.Core.Bool.{Bool, false}
+use mathlib.Core.List.{List, [], _∷_, _++_}
 use Prim.Native.Nat.{ℕ, _+_, _*_, _≤_}
 use lib.ListN.{length, drop}
 use Rattle.format.specs.Bytes.{Bytes}
@@ -15,10 +15,8 @@ use Rattle.format.specs.Numbering.{recordsIn}
 use Rattle.format.specs.Tree.{span, after, isDetail}
 use Rattle.rules.specs.Tables.{Tables}
 use Rattle.tables.specs.Index.{Indexed}
-use Rattle.rules.specs.Findings.{worst}
-use Rattle.rules.specs.Works.{is0, detailsFrom, transactionFindings}
-use Rattle.rules.specs.Records.{any}
-use Rattle.rules.specs.Verdicts.{rejects, transactionVerdicts}
+use Rattle.rules.specs.Works.{is0, transactionFindings}
+use Rattle.rules.specs.Verdicts.{transactionVerdicts}
 use Rattle.structure.specs.Cursor.{Here}
 use Rattle.edits.specs.Judged.{Judged}
 use Rattle.tally.specs.Known.{Known}
@@ -89,13 +87,6 @@ pub record Room (m v g : ℕ) : Type 0 where
 pub record Filled (i n : ℕ) (vs : List ℕ) (sets : List (List Bool)) (v₀ g₀ v g : Bytes) : Type 0 where
   pub end : n ≡ i + length sets
   pub written : Written i vs sets v₀ g₀ v g
-
--- the details ds are records i to n, and whether one of them rejects the transaction: each has got its own verdict, but where they are only
--- searched nothing is written
-pub record DoneDetails (searched : Bool) (tables : Tables) (i n : ℕ) (ds : List Bytes) (rejected : Bool) (v₀ g₀ v g : Bytes) : Type 0 where
-  pub filled : searched ≡ false → Filled i n (map worst (detailsFrom tables [] ds)) (detailsFrom tables [] ds) v₀ g₀ v g
-  pub kept : searched ≡ true → (v ≡ v₀) × (g ≡ g₀)
-  pub rejects : rejected ≡ any rejects (detailsFrom tables [] ds)
 
 -- the transaction x is records i to n
 abbrev pub FilledTransaction : (tables : Tables) (t : ℕ) (named : Bytes) (i n : ℕ) (x : Transaction) (v₀ g₀ v g : Bytes) → Type 0

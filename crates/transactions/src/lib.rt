@@ -21,9 +21,7 @@ ghost use Rattle.format.specs.Structure.{mostBytes, mostRecords, firstOf};
 ghost use Rattle.format.specs.Tree.{span, isDetail};
 ghost use Rattle.rules.specs.Tables.{Tables};
 ghost use Rattle.rules.specs.Values.{largestTolerance};
-ghost use Rattle.rules.specs.Findings.{setOf};
 ghost use Rattle.tables.specs.Index.{Indexed};
-ghost use Rattle.buffers.specs.Written.{Written};
 ghost use Rattle.kinds.specs.Rows.{typeOf, rowFor};
 ghost use Rattle.chains.specs.Tallies.{chainsOf, Tallied, Small};
 ghost use Rattle.totals.specs.Sums.{Below};
@@ -31,7 +29,8 @@ ghost use Rattle.tally.specs.Known.{Known};
 ghost use Rattle.headers.specs.Headed.{Linked, Headed};
 ghost use Rattle.structure.specs.Cursor.{Here};
 ghost use Rattle.transactions.specs.Walk.{Outset, Turned};
-ghost use Rattle.transactions.specs.Walk.{restAt, frontOf, Prepared, Room, PastDetails, DoneDetails, PastTransaction, FilledTransaction};
+ghost use Rattle.transactions.specs.Walk.{restAt, frontOf, Prepared, Room, PastDetails, PastTransaction, FilledTransaction};
+ghost use Rattle.transactions.specs.Purposes.{isSearch, Keeps, Kept, Lent, DoneDetails};
 
 // Where a walk over a transaction's details stands: at a byte of the file, before a record of that number; and what is known of the
 // details so far. The tallies of their chains are kept beside it.
@@ -142,45 +141,76 @@ fn judge_detail(
     }
 }
 
-// A detail's entry, unless it is only searched.
-fn settle_unless(
-    searched: bool,
+// What a walk over details is for: their entries are written into the buffers of a check, they are counted for a sheet, or one that rejects
+// the transaction is searched for, and the walk ends there.
+pub enum Purpose {
+    Write,
+    Count,
+    Search,
+}
+
+impl Purpose {
+    fn is_search(self) -> bool
+        ensures { λ r. ⌜ r ≡ isSearch self ⌝ }
+    {
+        match self {
+            Purpose::Write => false,
+            Purpose::Count => false,
+            Purpose::Search => true,
+        }
+    }
+}
+
+// What is done with a detail that is judged.
+fn keep(
+    purpose: Purpose,
     index: usize,
     found: Found,
     verdicts: &mut [u8],
     findings: &mut [u8],
+    carriers: &mut [u64],
+    levels: &mut [u64],
 )
-    requires { ⌜ (searched ≡ false → (index < length (now verdicts)) × (8 * (index + 1) ≤ length (now findings))) ⌝ }
-    ensures { λ _. ⌜ (searched ≡ false → (set : List Bool) → found .set ≡ setOf set → Written index (found .level ∷ []) (set ∷ [])
-        (now (verdicts .entry)) (now (findings .entry)) (now (verdicts .exit)) (now (findings .exit))) ⌝ }
-    ensures { λ _. ⌜ (searched ≡ true → (now (verdicts .exit) ≡ now (verdicts .entry)) × (now (findings .exit) ≡ now (findings .entry))) ⌝ }
+    requires { ⌜ Keeps purpose index (found .level) (now verdicts) (now findings) (now carriers) (now levels) ⌝ }
+    ensures { λ _. ⌜ Kept purpose index found (now (verdicts .entry)) (now (findings .entry)) (now (carriers .entry)) (now (levels .entry))
+        (now (verdicts .exit)) (now (findings .exit)) (now (carriers .exit)) (now (levels .exit)) ⌝ }
 {
-    if !searched {
-        buffers::settle(index, found.set, found.level, verdicts, findings);
+    match purpose {
+        Purpose::Write => {
+            buffers::settle(index, found.set, found.level, verdicts, findings);
+        }
+        Purpose::Count => {
+            figures::count(found.set, found.level, carriers, levels);
+        }
+        Purpose::Search => {}
     }
 }
 
-// The details that stand here, after a header; the first of them is that record of the file. Each one's entry is written; or, where they are
-// only searched, nothing is, and none is judged after one that rejects the transaction.
+// The details that stand here, after a header; the first of them is that record of the file. Each is judged and kept, as the purpose is;
+// but where one that rejects the transaction is searched for, none after it.
 pub fn judge_details(
     file: &[u8],
     start: usize,
     first: usize,
     slots: &tables::Slots,
-    searched: bool,
+    purpose: Purpose,
     verdicts: &mut [u8],
     findings: &mut [u8],
+    carriers: &mut [u64],
+    levels: &mut [u64],
 ) -> Details
     requires { ⌜ (length (now file) ≤ mostBytes) × Here (now file) start head (restAt (now file) start)
         × (first + length (restAt (now file) start) ≤ mostRecords)
-        × (searched ≡ false → Room (first + length (restAt (now file) start)) (length (now verdicts)) (length (now findings))) ⌝ }
+        × Lent purpose first (first + length (restAt (now file) start)) (now verdicts) (now findings) (now carriers) (now levels) ⌝ }
     requires { ⌜ Prepared (now slots) ⌝ }
-    ensures { λ d. ⌜ ((searched && d .rejects) ≡ false
+    ensures { λ d. ⌜ ((isSearch purpose && d .rejects) ≡ false
         → PastDetails (now (file .entry)) (first + length (restAt (now (file .entry)) start)) (restAt (now (file .entry)) start) d) ⌝ }
     ensures { λ d. ⌜ ((tables : Tables) → Indexed tables (now (slots .entry))
-        → DoneDetails searched tables first (d .walk .index) (span (isDetail cwr22) (restAt (now (file .entry)) start)) (d .rejects)
-        (now (verdicts .entry)) (now (findings .entry)) (now (verdicts .exit)) (now (findings .exit))) ⌝ }
+        → DoneDetails purpose tables first (d .walk .index) (span (isDetail cwr22) (restAt (now (file .entry)) start)) (d .rejects)
+        (now (verdicts .entry)) (now (findings .entry)) (now (carriers .entry)) (now (levels .entry))
+        (now (verdicts .exit)) (now (findings .exit)) (now (carriers .exit)) (now (levels .exit))) ⌝ }
 {
+    let searched = purpose.is_search();
     let rows = kinds::table();
     let mut begun: [u8; 100] = [0; 100];
     let mut es: [u32; 100] = [0; 100];
@@ -214,7 +244,15 @@ pub fn judge_details(
             &mut sums,
         );
         let found = s.found;
-        settle_unless(searched, w.index, found, verdicts, findings);
+        keep(
+            purpose,
+            w.index,
+            found,
+            verdicts,
+            findings,
+            carriers,
+            levels,
+        );
         rejects = rejects | (found.level == TR);
         w = s.walk;
     }
@@ -284,14 +322,18 @@ pub fn judge_transaction(
         → FilledTransaction tables t (now (named .entry)) index (p .index) (frontOf (restAt (now (file .entry)) at))
         (now (verdicts .entry)) (now (findings .entry)) (now (verdicts .exit)) (now (findings .exit))) ⌝ }
 {
+    let mut no_carriers: [u64; 1] = [0; 1];
+    let mut no_levels: [u64; 1] = [0; 1];
     let d = judge_details(
         file,
         at + kinds::HEADER_LENGTH as usize + 2,
         index + 1,
         slots,
-        false,
+        Purpose::Write,
         verdicts,
         findings,
+        &mut no_carriers[0..0],
+        &mut no_levels[0..0],
     );
     let w = d.walk;
     let y = w.tally;

@@ -2,7 +2,6 @@
 use Prim.Native.Nat.{_+_}
 use native.Mathlib.Omega.{arith}
 use mathlib.Core.Path.{_≡_, refl, sym, ap, _∙_}
-use mathlib.Core.Bool.{false≢true}
 use mathlib.Core.List.{[]}
 use lib.ListN.{length}
 use borrow.Author.Needs.{needs}
@@ -23,10 +22,10 @@ use Rattle.search.proofs.search_transaction.Tie as tie
 -- ---- each call from the one after it
 
 abbrev start-of : tie.After-judge-details → tie.Start
-start-of c = c .before .before .before .before .before
+start-of c = c .before .before .before .before .before .before .before
 
 abbrev details-of : tie.Else1 → tie.After-judge-details
-details-of c = c .before .before .before
+details-of c = c .before .before .before .before .before
 
 abbrev clean-of : tie.After-judge-header → tie.Else1
 clean-of c = c .before .before .before .before
@@ -40,9 +39,9 @@ position c = record { here = c .pre .0 .1; left = refl }
 
 judge-details-requires : tie.Need-judge-details-requires
 judge-details-requires c κs =
-    let start = c .before .before .before .before in
+    let start = c .before .before .before .before .before .before in
     let inside = position-after transaction-header (position start) refl (start .pre .0 .2) _ refl in
-    ((start .pre .0 .0, inside .here, rw (inside .left) (start .pre .0 .3), λ e. absurd (false≢true (sym e))), start .pre .1 .1)
+    ((start .pre .0 .0, inside .here, rw (inside .left) (start .pre .0 .3), tt), start .pre .1 .1)
 
 -- whether one of them rejects it
 rejected : (c : tie.After-judge-details) (tables : Tables) → Indexed tables (start-of c .args .slots .now)
@@ -54,7 +53,7 @@ rejected c tables e =
 
 returns : tie.Need-returns
 returns c =
-    let judged = c .before .before .before in
+    let judged = c .before .before .before .before .before in
     (tt, λ tables e. grave-inside _ _ _ _ (sym (c .if1 .taken) ∙ rejected judged tables e))
 
 -- ---- none of them does: its header
@@ -103,4 +102,5 @@ search-transaction-spec =
     tie.close
     (tie.spec
     (λ c. search needs) (λ c. search needs) (λ c. search needs) (λ c. search needs) (λ c. search needs) (λ c. search needs) (λ c. search needs)
-    (λ c. search needs) (λ c. search needs) (λ c. search needs) judge-details-requires returns judge-header-requires returns-2 returns-3)
+    (λ c. search needs) (λ c. search needs) (λ c. search needs) (λ c. search needs) (λ c. search needs) (λ c. search needs) (λ c. search needs)
+    (λ c. search needs) (λ c. search needs) judge-details-requires returns judge-header-requires returns-2 returns-3)

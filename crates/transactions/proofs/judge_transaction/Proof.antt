@@ -19,10 +19,10 @@ use Rattle.transactions.proofs.judge_transaction.Tie as tie
 -- ---- each call from the one after it
 
 abbrev start-of : tie.After-judge-details → tie.Start
-start-of c = c .before .before .before .before .before .before .before
+start-of c = c .before .before .before .before .before .before .before .before .before
 
 abbrev details-of : tie.After-judge-header → tie.After-judge-details
-details-of c = c .before .before .before .before .before .before .before .before
+details-of c = c .before .before .before .before .before .before .before .before .before .before
 
 abbrev head-of : tie.After-settle → tie.After-judge-header
 head-of c = c .before .before .before
@@ -39,9 +39,9 @@ position c = record { here = c .pre .0 .1; left = refl }
 
 judge-details-requires : tie.Need-judge-details-requires
 judge-details-requires c κs =
-    let start = c .before .before .before .before .before .before in
+    let start = c .before .before .before .before .before .before .before .before in
     let inside = position-after transaction-header (position start) refl (start .pre .0 .2) _ refl in
-    ((start .pre .0 .0, inside .here, rw (inside .left) (start .pre .0 .3 .few), λ e. rw (inside .left) (start .pre .0 .3)), start .pre .1 .1)
+    ((start .pre .0 .0, inside .here, rw (inside .left) (start .pre .0 .3 .few), rw (inside .left) (start .pre .0 .3)), start .pre .1 .1)
 
 past : (c : tie.After-judge-details) → PastDetails (start-of c .args .file .now)
     (start-of c .args .index + length (restAt (start-of c .args .file .now) (start-of c .args .at)))
@@ -55,7 +55,7 @@ past c =
 
 judge-header-requires : tie.Need-judge-header-requires
 judge-header-requires c κs =
-    let judged = c .before .before .before .before .before .before .before in
+    let judged = c .before .before .before .before .before .before .before .before .before in
     let start = start-of judged in
     let inside = position-after transaction-header (position start) refl (start .pre .0 .2) _ refl in
     let below = past-below (judged .judge-details .ensures .0 refl) (omega (arith, inside .left, start .pre .0 .3 .few)) in
@@ -73,7 +73,7 @@ settle-requires c κs =
     let judged = details-of (c .before .before) in
     let start = start-of judged in
     let some = start .pre .1 .1 in
-    entry-room (position start) refl (room-kept (judged .judge-details .ensures .1 (some .0) (some .1) .filled refl) (start .pre .0 .3))
+    entry-room (position start) refl (room-kept (judged .judge-details .ensures .1 (some .0) (some .1) .done .0) (start .pre .0 .3))
 
 -- ---- its verdicts raised
 
@@ -81,13 +81,13 @@ sub-raise : tie.Need-sub-raise
 sub-raise c =
     let judged = details-of (head-of (settled-of c)) in
     let some = start-of judged .pre .1 .1 in
-    omega (arith, judged .judge-details .ensures .1 (some .0) (some .1) .filled refl .end)
+    omega (arith, judged .judge-details .ensures .1 (some .0) (some .1) .done .0 .end)
 
 part-raise-start : tie.Need-part-raise-start
 part-raise-start c =
     let judged = details-of (head-of (settled-of c)) in
     let some = start-of judged .pre .1 .1 in
-    omega (arith, judged .judge-details .ensures .1 (some .0) (some .1) .filled refl .end)
+    omega (arith, judged .judge-details .ensures .1 (some .0) (some .1) .done .0 .end)
 
 part-raise-end : tie.Need-part-raise-end
 part-raise-end c =
@@ -96,7 +96,7 @@ part-raise-end c =
     let judged = details-of head in
     let start = start-of judged in
     let some = start .pre .1 .1 in
-    let room = room-kept (judged .judge-details .ensures .1 (some .0) (some .1) .filled refl) (start .pre .0 .3) in
+    let room = room-kept (judged .judge-details .ensures .1 (some .0) (some .1) .done .0) (start .pre .0 .3) in
     omega (arith, past judged .position .left, room .inV, kept-v (settled .settle .ensures _ (headed head (some .0) (some .1) .set)))
 
 whole : tie.Need-returns
@@ -135,5 +135,5 @@ pub judge-transaction-spec : {M : Type 1} → statement M
 judge-transaction-spec =
     tie.close
     (tie.spec
-    (λ c. search needs) (λ c. search needs) (λ c. search needs) (λ c. search needs) judge-details-requires judge-header-requires settle-requires
-    (λ c κs. search needs) sub-raise part-raise-start part-raise-end (λ c κs. search needs) same-length same-length-2 returns)
+    (λ c. search needs) (λ c. search needs) (λ c. search needs) (λ c. search needs) (λ c. search needs) (λ c. search needs) (λ c. search needs)
+    (λ c. search needs) (λ c. search needs) (λ c. search needs) judge-details-requires judge-header-requires settle-requires (λ c κs. search needs) sub-raise part-raise-start part-raise-end (λ c κs. search needs) same-length same-length-2 returns)

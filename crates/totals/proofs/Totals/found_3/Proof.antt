@@ -8,14 +8,7 @@ returns : tie.Need-returns
 unfolding is3
 returns c ds s =
     let at1 = c .before .before .before in
-    rw (
-      c .before .before .zero-or-full .ensures,
-      c .before .zero-or-full2 .ensures,
-      c .zero-or-full3 .ensures,
-      at1 .with .ensures,
-      s .publishers,
-      s .writers,
-    )
+    rw (c .before .before .zero-or-full .ensures, c .before .zero-or-full2 .ensures, c .zero-or-full3 .ensures, at1 .whole .ensures .0 ds s)
 
 pub found-3-spec : {M : Type 1} → statement M
 found-3-spec = tie.close (tie.spec (λ c κs. search needs) (λ c κs. search needs) (λ c κs. search needs) (λ c κs. search needs) returns)
