@@ -8,7 +8,7 @@ use Rattle.format.specs.Structure.{Answer as FormatAnswer, refused, passed}
 use Rattle.format.specs.Claims.{Near}
 use Rattle.answers.specs.declared.Answer.{Answer}
 use Rattle.answers.specs.declared.Answer.the-variants.{Tolerance, Table, Long, Many, Line, Shape}
-use Rattle.answers.specs.declared.Answer.the-variants.{Place, Number, Total, Version, Short, Passed}
+use Rattle.answers.specs.declared.Answer.the-variants.{Place, Number, Total, Version, Short, Full, Passed}
 use Rattle.answers.specs.Numbers.{answerOf, exact}
 use Rattle.answers.specs.Claims.{Alike, Named, Says, NothingLost}
 
@@ -18,9 +18,9 @@ use Rattle.answers.specs.Claims.{Alike, Named, Says, NothingLost}
 caseOf : FormatAnswer → Answer
 caseOf (refused n i) =
     getD
-    (Short ∷ Tolerance ∷ Table i ∷ Long ∷ Line i ∷ Many ∷ Shape i ∷ Place i ∷ Number i ∷ Total i ∷ Version ∷ [])
+    (Full ∷ Tolerance ∷ Table i ∷ Long ∷ Line i ∷ Many ∷ Shape i ∷ Place i ∷ Number i ∷ Total i ∷ Version ∷ Short ∷ [])
     n
-    Short
+    Full
 caseOf (passed g m r) = Passed g m r
 
 case-found : (a : Answer) → caseOf (answerOf a) ≡ a
@@ -36,6 +36,7 @@ case-found (Number i) = refl
 case-found (Total i) = refl
 case-found Version = refl
 case-found Short = refl
+case-found Full = refl
 case-found (Passed g m r) = refl
 
 pub answer-alone : (a b : Answer) → answerOf a ≡ answerOf b → a ≡ b
@@ -55,6 +56,7 @@ named (Number i) = omega arith
 named (Total i) = omega arith
 named Version = omega arith
 named Short = omega arith
+named Full = omega arith
 named (Passed g m r) = tt
 
 pub exact-says : (a : FormatAnswer) → Near a → Says (exact a) a

@@ -20,9 +20,10 @@ pub enum Answer {
     Place(usize),
     Number(usize),
     Total(usize),
-    // 10, 11: HDR's version; an output buffer.
+    // 10, 11, 12: HDR's version; an output buffer; a sheet that has taken all the files that it may.
     Version,
     Short,
+    Full,
     Passed(u64, u64, u64),
 }
 
@@ -42,9 +43,9 @@ pub struct Told {
 }
 
 fn refusal(number: u64, place: usize) -> Told
-    requires { ⌜ number ≤ 11 ⌝ }
+    requires { ⌜ number ≤ 12 ⌝ }
     ensures { λ r. ⌜ r ≡ toldOf (refused number place) ⌝ }
-    ensures { λ r. ⌜ r .refusal ≤ 11 ⌝ }
+    ensures { λ r. ⌜ r .refusal ≤ 12 ⌝ }
 {
     Told {
         passes: false,
@@ -58,7 +59,7 @@ fn refusal(number: u64, place: usize) -> Told
 
 // A refusal in one number. An answer may hold any place, so its last 32 bits are taken; within the size limits they are the whole place.
 fn pack(number: u64, place: u64) -> u64
-    requires { ⌜ number ≤ 11 ⌝ }
+    requires { ⌜ number ≤ 12 ⌝ }
     ensures { λ r. ⌜ r ≡ packedOf (refused number place) ⌝ }
 {
     number * 4294967296 + place % 4294967296
@@ -68,7 +69,7 @@ impl Answer {
     // In numbers. Nowhere else in code is a refusal given its number.
     pub fn told(self) -> Told
         ensures { λ r. ⌜ r ≡ toldOf (answerOf self) ⌝ }
-        ensures { λ r. ⌜ r .refusal ≤ 11 ⌝ }
+        ensures { λ r. ⌜ r .refusal ≤ 12 ⌝ }
     {
         match self {
             Answer::Tolerance => refusal(1, 0),
@@ -82,6 +83,7 @@ impl Answer {
             Answer::Total(i) => refusal(9, i),
             Answer::Version => refusal(10, 0),
             Answer::Short => refusal(11, 0),
+            Answer::Full => refusal(12, 0),
             Answer::Passed(groups, transactions, records) => Told {
                 passes: true,
                 refusal: 0,

@@ -1,5 +1,5 @@
 -- Sets of findings read back from the eight bytes of each: the lines are those of the sets. Assumes nothing.
-use Prim.Native.Nat.{ℕ, zero, suc, _+_, _*_, _/_, _^_, _<_, _≤_}
+use Prim.Native.Nat.{ℕ, suc, _+_, _^_, _<_, _≤_}
 use native.Mathlib.Nat.{pow-suc, pow-le-pow-right}
 use native.Mathlib.Omega.{arith}
 use mathlib.Core.Path.{_≡_, refl}
@@ -16,18 +16,9 @@ use Rattle.rules.specs.Verdicts.{findingBytes}
 use Rattle.rules.specs.Listing.{lowestWord, recordLine, recordLines}
 use Rattle.format.proofs.Decimal.{length-bytes}
 use Rattle.findings.proofs.Laws.{count-of-set, lowest-of-set}
-use Rattle.text.specs.Words.{wordOf}
+use Rattle.text.proofs.Words.{word-of-bytes}
 use Rattle.lister.proofs.Small.{Small}
 use Rattle.lister.specs.Read.{firstSet, setsIn, linesFrom}
-
--- ---- the word of a number's bytes
-
-word-of-bytes : (k n : ℕ) → n < 256 ^ k → wordOf (bytesOf k n) ≡ n
-unfolding wordOf bytesOf
-word-of-bytes zero n h = omega arith
-word-of-bytes (suc k) n h =
-    let g : n < 256 ^ k * 256 = rw pow-suc at h in
-    rw (word-of-bytes k (n / 256) (omega arith)) (omega arith)
 
 below : (s : List Bool) → setOf s < 2 ^ length s
 unfolding setOf

@@ -3,7 +3,7 @@ use mathlib.Core.Path.{_≡_, refl, sym, ap, _∙_}
 use mathlib.Core.Bool.{Bool, true, false, _&&_, false≢true}
 use mathlib.Core.List.{[], _∷_, _++_, append-nil}
 use Prim.Native.Nat.{ℕ, zero, suc, _+_, _-_, _*_, _/_, _%_, _^_, _<_, _≤_}
-use native.Mathlib.Nat.{pow-succ', mul-add, mul-assoc, mul-one, mul-le-mul-left}
+use native.Mathlib.Nat.{pow-suc, pow-succ', mul-add, mul-assoc, mul-one, mul-le-mul-left}
 use native.Mathlib.Omega.{arith}
 use lib.Dec.{ltb, leb, eqb}
 use lib.ListN.{length, getD, drop-of-length-le}
@@ -29,13 +29,21 @@ digits-are-bytes zero n = tt
 digits-are-bytes (suc w) n = All-append (λ b. b < 256) (decimal w (n / 10)) ((48 + n % 10) ∷ []) (digits-are-bytes w (n / 10)) (omega arith, tt)
 
 -- a word has the bytes that it is made of
-bytes-kept : (l : Bytes) → AreBytes l → bytesOf (length l) (wordOf l) ≡ l
+pub bytes-kept : (l : Bytes) → AreBytes l → bytesOf (length l) (wordOf l) ≡ l
 unfolding wordOf bytesOf
 bytes-kept [] h = refl
 bytes-kept (b ∷ l) h =
     let first : (b + 256 * wordOf l) % 256 ≡ b = omega (arith, h .0) in
     let others : (b + 256 * wordOf l) / 256 ≡ wordOf l = omega (arith, h .0) in
     rw (first, others, bytes-kept l (h .1))
+
+-- and a number that has room is the word of its bytes
+pub word-of-bytes : (k n : ℕ) → n < 256 ^ k → wordOf (bytesOf k n) ≡ n
+unfolding wordOf bytesOf
+word-of-bytes zero n h = omega arith
+word-of-bytes (suc k) n h =
+    let g : n < 256 ^ k * 256 = rw pow-suc at h in
+    rw (word-of-bytes k (n / 256) (omega arith)) (omega arith)
 
 pub digits-kept : (x n : ℕ) → x ≡ wordOf (decimal 8 n) → bytesOf 8 x ≡ decimal 8 n
 digits-kept x n e = rw e (rw length-decimal at (bytes-kept (decimal 8 n) (digits-are-bytes 8 n)))

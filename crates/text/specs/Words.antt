@@ -1,4 +1,4 @@
--- Internal: bytes in one number, a word: the first byte counts once, each further one 256 times the one before it.
+-- Bytes in one number, a word: the first byte counts once, each further one 256 times the one before it.
 use Prim.Native.Nat.{ℕ, _+_, _*_}
 use mathlib.Core.List.{[], _∷_}
 use Rattle.format.specs.Bytes.{Bytes}
