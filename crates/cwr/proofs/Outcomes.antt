@@ -1,29 +1,24 @@
--- What each ending of a check comes to, and what a file that is not refused is fit for. Assumes nothing.
-use Prim.Native.Nat.{ℕ, _+_, _*_, _/_, _≤_}
+-- What each ending of a check comes to, and that what passes has room. Assumes nothing.
+use Prim.Native.Nat.{ℕ, _+_, _*_, _/_}
 use native.Mathlib.Omega.{arith}
-use mathlib.Core.Path.{_≡_, refl, sym, ap, subst}
+use mathlib.Core.Path.{_≡_, refl, sym}
 use mathlib.Core.Bool.{true, false, false≢true}
 use mathlib.Core.List.{_++_}
 use lib.Dec.{leb}
 use lib.ListN.{length, drop}
 use borrow.Author.Tests.{leb-true, leb-false, le-leb, lt-leb}
 use Rattle.format.specs.Bytes.{Bytes}
-use Rattle.format.specs.Table.{unknown}
-use Rattle.format.specs.Cwr22.{cwr22}
-use Rattle.format.specs.Structure.{Answer, refused, passed, mostBytes, mostRecords, judged, structure}
-use Rattle.format.specs.Numbering.{recordsIn}
+use Rattle.format.specs.Structure.{Answer, refused, passed}
 use Rattle.format.specs.Lent.{leftIn, splice}
 use Rattle.format.proofs.Tests.{by-cases}
-use Rattle.format.proofs.Answers.{file-read, answer-judged}
 use Rattle.rules.specs.Tables.{Tables}
 use Rattle.rules.specs.Verdicts.{findingBytes, fileFindings, fileVerdicts}
-use Rattle.rules.specs.Outcome.{Outcome, admission, answer, content, check}
+use Rattle.rules.specs.Outcome.{Outcome, answer, content, check}
 use Rattle.rules.specs.Claims.{InOrder}
 use Rattle.rules.proofs.Each.{records-counted, pairs-counted}
-use Rattle.rules.proofs.Outcomes.{Orderly, admitted, passed-order}
+use Rattle.rules.proofs.Outcomes.{passed-order}
+use Rattle.admission.proofs.Fit.{Fit, passes-fit}
 use Rattle.answers.specs.Numbers.{isPassed}
-use Rattle.structure.specs.Cursor.{Here}
-use Rattle.structure.proofs.Cursor.{here-start}
 use Rattle.buffers.specs.Written.{Written}
 use Rattle.transactions.specs.Walk.{restAt, Room}
 
@@ -35,31 +30,6 @@ eighths r g =
     by-cases (leb r (g / 8))
     (λ e. rw (e, le-leb (8 * r) g (omega (arith, leb-true r (g / 8) e))) refl)
     (λ e. rw (e, lt-leb (8 * r) g (omega (arith, leb-false r (g / 8) e))) refl)
-
--- ---- a file that is let in
-
--- it is walked from its first byte
-pub record Fit (f : Bytes) : Type 0 where
-  pub short : length f ≤ mostBytes
-  pub here : Here f 0 unknown (restAt f 0)
-  pub few : length (restAt f 0) ≤ mostRecords
-
-passes-fit : (f : Bytes) (k m n : ℕ) → structure cwr22 f ≡ passed k m n → Fit f
-unfolding structure
-passes-fit f k m n e =
-    let d = file-read (judged cwr22) f k m n e in
-    let c : length (restAt f 0) ≡ n = records-counted f k m n e in
-    record {
-      short = d .limits .0;
-      here =
-          subst (Here f 0 unknown) (sym (ap recordsIn (d .is-lines)))
-          (here-start f (d .rs) (d .is-lines) (answer-judged cwr22 (d .rs) k m n (d .is-judged) .in-place));
-      few = omega (arith, d .limits .1, pairs-counted f k m n e);
-    }
-
-pub let-in : (tables : Tables) (t : ℕ) (f : Bytes) (a : Answer) → a ≡ admission tables t f → isPassed a ≡ true → Orderly tables t × Fit f
-let-in tables t f (refused n i) is e = absurd (false≢true e)
-let-in tables t f (passed k m n) is e = let (o, s) = admitted tables t f k m n (sym is) in (o, passes-fit f k m n s)
 
 -- ---- endings
 

@@ -8,9 +8,12 @@ use Rattle.rules.specs.Tables.{Tables}
 use Rattle.rules.specs.Findings.{places, countOf, lowestOf}
 use Rattle.rules.specs.Outcome.{Outcome, check}
 use Rattle.rules.specs.First.{first}
+use Rattle.rules.specs.Sheet.{Sheet, add}
 use Rattle.answers.specs.declared.Answer.{Answer}
 use Rattle.answers.specs.Numbers.{answerOf}
 use Rattle.numbering.specs.Outcome.{numberAnswer, numberBuffer}
+use Rattle.sheet.specs.declared.Taken.{Taken}
+use Rattle.sheet.specs.Told.{addedOf}
 use Rattle.cwr.specs.declared.First.{First}
 use Rattle.cwr.specs.First.{firstOf}
 
@@ -25,6 +28,10 @@ Checked tables t f v g r v' g' = outcome r v' g' ≡ check tables t f v g
 -- `first_rejected`
 abbrev pub FirstRejected : Tables → ℕ → Bytes → First → Type 0
 FirstRejected tables t f r = firstOf r ≡ first tables t f
+
+-- `sheet_add`, on the sheet s
+abbrev pub SheetTaken : Sheet → Tables → Bytes → Taken → Type 0
+SheetTaken s tables f r = addedOf r ≡ add s (record { tables = tables; file = f })
 
 -- `number`, with the buffer before it and after it
 abbrev pub Numbered : Bytes → Bytes → Answer → Bytes → Type 0
@@ -45,6 +52,7 @@ pub record OneFits : Type 0 where
   pub check : (tables : Tables) (t : ℕ) (f v g : Bytes) (r s : Answer) (v₁ g₁ v₂ g₂ : Bytes) → Checked tables t f v g r v₁ g₁
       → Checked tables t f v g s v₂ g₂ → (r ≡ s) × (v₁ ≡ v₂) × (g₁ ≡ g₂)
   pub first : (tables : Tables) (t : ℕ) (f : Bytes) (r s : First) → FirstRejected tables t f r → FirstRejected tables t f s → r ≡ s
+  pub sheet : (s : Sheet) (tables : Tables) (f : Bytes) (p q : Taken) → SheetTaken s tables f p → SheetTaken s tables f q → p ≡ q
   pub number : (f out : Bytes) (r s : Answer) (a b : Bytes) → Numbered f out r a → Numbered f out s b → (r ≡ s) × (a ≡ b)
   pub count : (set r s : ℕ) → Counted set r → Counted set s → r ≡ s
   pub lowest : (set r s : ℕ) → Lowest set r → Lowest set s → r ≡ s

@@ -2,6 +2,8 @@
 // promises in specs/Promises.antt.
 use answers::Answer;
 use search::Sought;
+use sheet::Sheet;
+use sheet::Taken;
 use values::Share;
 ghost use mathlib.Core.Path.{_≡_};
 ghost use mathlib.Core.Bool.{true};
@@ -13,45 +15,20 @@ ghost use Rattle.format.specs.Table.{unknown};
 ghost use Rattle.rules.specs.Tables.{languageSize, societySize, categorySize, rightTable, tablesOf};
 ghost use Rattle.rules.specs.Values.{largestTolerance};
 ghost use Rattle.rules.specs.Records.{any};
-ghost use Rattle.rules.specs.Outcome.{enough, admission as Outcome·admission, content, shortTolerance};
+ghost use Rattle.rules.specs.Outcome.{enough, content, shortTolerance};
 ghost use Rattle.rules.specs.First.{isGrave, firstAt};
 ghost use Rattle.rules.specs.Claims.{ownSets};
 ghost use Rattle.answers.specs.Numbers.{answerOf};
 ghost use Rattle.structure.specs.Cursor.{Here};
 ghost use Rattle.transactions.specs.Walk.{restAt, Room};
 ghost use Rattle.files.specs.Levels.{WrittenFile};
+ghost use Rattle.sheet.specs.Told.{toldOf};
 ghost use Rattle.search.specs.Levels.{inFile};
 ghost use Rattle.cwr.specs.First.{firstOf};
 ghost use Rattle.cwr.specs.Packed.{packedFirst};
-ghost use Rattle.cwr.specs.Promises.{Checked, FirstRejected, Numbered, Counted, Lowest, RightLength};
+ghost use Rattle.cwr.specs.Promises.{Checked, FirstRejected, SheetTaken, Numbered, Counted, Lowest, RightLength};
 
 // ---- refusals
-
-// 1 to 10, before any buffer is looked at.
-fn admission(
-    file: &[u8],
-    languages: &[u8],
-    societies: &[u8],
-    categories: &[u8],
-    tolerance: u64,
-) -> Answer
-    ensures { λ r. ⌜ answerOf r ≡ Outcome·admission (tablesOf (now (languages .entry)) (now (societies .entry)) (now (categories .entry)))
-        tolerance (now (file .entry)) ⌝ }
-{
-    if !Share::is_tolerance(tolerance) {
-        return Answer::Tolerance;
-    }
-    if !tables::right(languages, tables::LANGUAGE) {
-        return Answer::Table(0);
-    }
-    if !tables::right(societies, tables::SOCIETY) {
-        return Answer::Table(1);
-    }
-    if !tables::right(categories, tables::CATEGORY) {
-        return Answer::Table(2);
-    }
-    structure::check(file)
-}
 
 // 11, after all others.
 fn in_room(answer: Answer, verdicts: usize, findings: usize) -> Answer
@@ -124,7 +101,7 @@ pub fn check(
     ensures { λ r. ⌜ Checked (tablesOf (now (languages .entry)) (now (societies .entry)) (now (categories .entry))) tolerance
         (now (file .entry)) (now (verdicts .entry)) (now (findings .entry)) r (now (verdicts .exit)) (now (findings .exit)) ⌝ }
 {
-    let admitted = admission(file, languages, societies, categories, tolerance);
+    let admitted = admission::admit(file, languages, societies, categories, tolerance);
     let r = in_room(admitted, verdicts.len(), findings.len());
     if !r.passes() {
         return r;
@@ -198,7 +175,7 @@ pub fn first_rejected(
     ensures { λ r. ⌜ FirstRejected (tablesOf (now (languages .entry)) (now (societies .entry)) (now (categories .entry))) tolerance
         (now (file .entry)) r ⌝ }
 {
-    let admitted = admission(file, languages, societies, categories, tolerance);
+    let admitted = admission::admit(file, languages, societies, categories, tolerance);
     if !admitted.passes() {
         return First::Refused(admitted);
     }
@@ -207,6 +184,20 @@ pub fn first_rejected(
         Sought::Nothing => First::Nothing,
         Sought::At(transaction) => First::At(transaction),
     }
+}
+
+// Takes one file more on a sheet, which is `Sheet::fresh()` before the first.
+pub fn sheet_add(
+    sheet: Sheet,
+    file: &[u8],
+    languages: &[u8],
+    societies: &[u8],
+    categories: &[u8],
+) -> Taken
+    ensures { λ r. ⌜ SheetTaken (toldOf sheet) (tablesOf (now (languages .entry)) (now (societies .entry)) (now (categories .entry)))
+        (now (file .entry)) r ⌝ }
+{
+    sheet.take(file, languages, societies, categories)
 }
 
 // Numbers a file into out.

@@ -18,13 +18,16 @@ use Rattle.numbering.specs.Outcome.{numberAnswer}
 use Rattle.numbering.proofs.Claims.{near}
 use Rattle.cwr.specs.First.{exactFirst}
 use Rattle.cwr.proofs.Firsts.{refused-near}
+use Rattle.cwr_c.specs.Sheet.{sheetAnswer}
 use Rattle.cwr_c.specs.Promises.{OneFits}
 use Rattle.cwr_c.specs.Claims.{OfCheck, ReadOff}
+use Rattle.cwr_c.proofs.Laws.{sheet-near}
 
 pub one-fits : OneFits
 one-fits = record {
   check = λ tables t f v g r s v₁ g₁ v₂ g₂ p q. (p .0 ∙ sym (q .0), p .1 ∙ sym (q .1), p .2 ∙ sym (q .2));
   first = λ tables t f r s p q. p ∙ sym q;
+  sheet = λ sheet x r s a b p q. (p .0 ∙ sym (q .0), p .1 ∙ sym (q .1));
   number = λ f out r s a b p q. (p .0 ∙ sym (q .0), p .1 ∙ sym (q .1));
 }
 
@@ -73,6 +76,7 @@ one-number (at k) (at j) p q e = ap at e
 pub read-off : ReadOff
 read-off = record {
   check = λ tables t f v g r v' g' p. says r (check tables t f v g .answer) (p .0) (checks .near tables t f v g);
+  sheet = λ sheet x r sheet' p. says r (sheetAnswer sheet x) (p .0) (sheet-near sheet x);
   number = λ f out r out' p. says r (numberAnswer f (length out)) (p .0) (near f (length out));
   first-alone = λ tables tables' t t' f f'. one-number _ _ (known tables t f _ refl) (known tables' t' f' _ refl);
   alike = λ a b p q. exact-alone a b (of-check-near a p) (of-check-near b q) (of-check-named a p) (of-check-named b q);

@@ -8,9 +8,11 @@ use Rattle.format.specs.Bytes.{Bytes}
 use Rattle.rules.specs.Tables.{Tables}
 use Rattle.rules.specs.Outcome.{check}
 use Rattle.rules.specs.First.{first}
+use Rattle.rules.specs.Sheet.{Taken}
 use Rattle.answers.specs.Numbers.{exact}
 use Rattle.numbering.specs.Outcome.{numberAnswer, numberBuffer}
 use Rattle.cwr.specs.First.{exactFirst}
+use Rattle.cwr_c.specs.Sheet.{sheetAnswer, sheetBuffer}
 
 -- `cwr_check_within`, with the buffers v and g before it and v' and g' after it; `cwr_check` with the short form's tolerance
 abbrev pub CheckedC : Tables → ℕ → Bytes → Bytes → Bytes → ℕ → Bytes → Bytes → Type 0
@@ -21,6 +23,10 @@ CheckedC tables t f v g r v' g' =
 abbrev pub FirstRejectedC : Tables → ℕ → Bytes → ℕ → Type 0
 FirstRejectedC tables t f r = r ≡ exactFirst (first tables t f)
 
+-- `cwr_sheet_add`, with the sheet's bytes before it and after it
+abbrev pub SheetAddedC : Bytes → Taken → ℕ → Bytes → Type 0
+SheetAddedC sheet x r sheet' = (r ≡ exact (sheetAnswer sheet x)) × (sheet' ≡ sheetBuffer sheet x)
+
 -- `cwr_number`, with the buffer before it and after it
 abbrev pub NumberedC : Bytes → Bytes → ℕ → Bytes → Type 0
 NumberedC f out r out' = (r ≡ exact (numberAnswer f (length out))) × (out' ≡ numberBuffer f out)
@@ -29,4 +35,5 @@ pub record OneFits : Type 0 where
   pub check : (tables : Tables) (t : ℕ) (f v g : Bytes) (r s : ℕ) (v₁ g₁ v₂ g₂ : Bytes) → CheckedC tables t f v g r v₁ g₁
       → CheckedC tables t f v g s v₂ g₂ → (r ≡ s) × (v₁ ≡ v₂) × (g₁ ≡ g₂)
   pub first : (tables : Tables) (t : ℕ) (f : Bytes) (r s : ℕ) → FirstRejectedC tables t f r → FirstRejectedC tables t f s → r ≡ s
+  pub sheet : (sheet : Bytes) (x : Taken) (r s : ℕ) (a b : Bytes) → SheetAddedC sheet x r a → SheetAddedC sheet x s b → (r ≡ s) × (a ≡ b)
   pub number : (f out : Bytes) (r s : ℕ) (a b : Bytes) → NumberedC f out r a → NumberedC f out s b → (r ≡ s) × (a ≡ b)

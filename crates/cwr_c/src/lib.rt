@@ -1,9 +1,10 @@
 // The library as C calls it: bytes in and out, and one number for an answer: a refusal's number times 2 to the 32 plus its place, or what
 // was asked for, the number of records or of a transaction. include/cwr.h declares these calls.
+use answers::Answer;
 ghost use Rattle.rules.specs.Outcome.{shortTolerance};
 ghost use Rattle.rules.specs.Tables.{tablesOf};
 ghost use Rattle.cwr.specs.Promises.{Counted, Lowest, RightLength};
-ghost use Rattle.cwr_c.specs.Promises.{CheckedC, FirstRejectedC, NumberedC};
+ghost use Rattle.cwr_c.specs.Promises.{CheckedC, FirstRejectedC, SheetAddedC, NumberedC};
 
 // The short form of the check.
 #[no_mangle]
@@ -62,6 +63,33 @@ pub extern "C" fn cwr_first_rejected(
 {
     let first = cwr::first_rejected(file, languages, societies, categories, tolerance);
     first.packed()
+}
+
+// Takes one file more on a sheet of 664 bytes, which are all 0 before the first.
+#[no_mangle]
+pub extern "C" fn cwr_sheet_add(
+    sheet: &mut [u8],
+    file: &[u8],
+    languages: &[u8],
+    societies: &[u8],
+    categories: &[u8],
+) -> u64
+    ensures { λ r. ⌜ SheetAddedC (now (sheet .entry)) (record {
+      tables = tablesOf (now (languages .entry)) (now (societies .entry)) (now (categories .entry));
+      file = now (file .entry);
+    })
+        r (now (sheet .exit)) ⌝ }
+{
+    if sheet.len() < sheet_bytes::SHEET {
+        let short = Answer::Short;
+        return short.packed();
+    }
+    let before = sheet_bytes::read(sheet);
+    let taken = cwr::sheet_add(before, file, languages, societies, categories);
+    let after = taken.sheet;
+    sheet_bytes::put(after, sheet);
+    let answer = taken.answer;
+    answer.packed()
 }
 
 // Numbering.

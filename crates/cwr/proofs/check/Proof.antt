@@ -10,14 +10,14 @@ use Rattle.cwr.proofs.check.Tie as tie
 returns : tie.Need-returns
 returns c =
     let room = c .before .before in
-    let told = answered _ _ _ _ _ _ _ (room .before .admission .ensures) (room .in-room .ensures) in
+    let told = answered _ _ _ _ _ _ _ (room .before .admit .ensures) (room .in-room .ensures) in
     refused-so _ _ _ _ _ _ told (sym (c .before .passes .ensures) ∙ not-true _ (c .if1 .taken))
 
 judge-requires : tie.Need-judge-requires
 judge-requires c κs =
     let at = c .before .before .before .before in
     let args = at .before .before .before .before .before .before .before .before .args in
-    let told = answered _ _ _ _ _ _ _ (at .before .admission .ensures) (at .in-room .ensures) in
+    let told = answered _ _ _ _ _ _ _ (at .before .admit .ensures) (at .in-room .ensures) in
     let passes = sym (c .before .before .before .passes .ensures) ∙ not-false _ (c .before .before .if1 .left) in
     let (o, h, room) = fit _ _ _ (args .verdicts .now) (args .findings .now) _ told passes in
     ((h .short, h .here, room), (o .tolerance, o .languages, o .societies, o .categories))
@@ -26,7 +26,7 @@ returns-2 : tie.Need-returns-2
 returns-2 c =
     let judged = c .before .before .before .before in
     let at = judged .before .before .before .before .before in
-    let told = answered _ _ _ _ _ _ _ (at .before .admission .ensures) (at .in-room .ensures) in
+    let told = answered _ _ _ _ _ _ _ (at .before .admit .ensures) (at .in-room .ensures) in
     let passes = sym (judged .before .before .before .before .passes .ensures) ∙ not-false _ (judged .before .before .before .if1 .left) in
     judged-so _ _ _ _ _ _ told passes _ _ (judged .judge .ensures)
 

@@ -1,0 +1,3 @@
+pub mod Complement
+pub mod Numbers
+pub mod Back

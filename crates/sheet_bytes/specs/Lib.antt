@@ -1,0 +1,3 @@
+pub mod Layout
+pub mod Claims
+pub mod Put
