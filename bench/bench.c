@@ -7,7 +7,7 @@
  *   bench small        each file a hundredth as long, once, to see that all works
  *   bench once WORK NAME
  *                      one work once on that file, untimed, and its length;
- *                      read, copy, structure, check, search, number, or nothing
+ *                      read, copy, structure, check, search, sheet, number, or nothing
  *   bench stack        the stack that each work takes
  *   bench write PATH   writes the file "right" there
  *
@@ -20,15 +20,16 @@
 /* The structural check alone, refusals 3 to 10; its answer is as cwr_check's. */
 uint64_t probe_structure(const uint8_t *file, size_t length);
 
-enum work { READ, COPY, STRUCTURE, CHECK, SEARCH, NUMBER, WORKS };
+enum work { READ, COPY, STRUCTURE, CHECK, SEARCH, SHEET, NUMBER, WORKS };
+
+/* SHEET_ROOM: more than a sheet takes, to see that what is beyond is left alone. */
+enum { FINDINGS_BYTES = CWR_MOST_RECORDS * CWR_FINDING_BYTES, SHEET_ROOM = CWR_SHEET_BYTES + 64, UNTOUCHED = 0x55 };
 
 /* One file and what is lent to the works on it. */
 struct bench {
     struct file file;
-    uint8_t *wiped, *out, *verdicts, *findings;
+    uint8_t *wiped, *out, *verdicts, *findings, sheet[SHEET_ROOM];
 };
-
-enum { FINDINGS_BYTES = CWR_MOST_RECORDS * CWR_FINDING_BYTES, UNTOUCHED = 0x55 };
 
 /* What is stored here has to be computed. */
 static volatile uint64_t seen;
@@ -63,12 +64,20 @@ static uint64_t search(struct bench *b) {
                               tables[SOCIETIES].bytes, tables[SOCIETIES].length, tables[CATEGORIES].bytes, tables[CATEGORIES].length);
 }
 
+/* A fresh one each time, so that it is the sheet of this file alone, and never full. */
+static uint64_t sheet(struct bench *b) {
+    const struct codes *tables = b->file.tables;
+    memset(b->sheet, 0, CWR_SHEET_BYTES);
+    return cwr_sheet_add(b->sheet, SHEET_ROOM, b->file.bytes, b->file.length, tables[LANGUAGES].bytes, tables[LANGUAGES].length,
+                         tables[SOCIETIES].bytes, tables[SOCIETIES].length, tables[CATEGORIES].bytes, tables[CATEGORIES].length);
+}
+
 static uint64_t number(struct bench *b) {
     return cwr_number(b->wiped, b->file.length, b->out, b->file.length);
 }
 
-static uint64_t (*const works[WORKS])(struct bench *b) = {read_plainly, copy, structure, check, search, number};
-static const char *const names[WORKS] = {"read", "copy", "structure", "check", "search", "number"};
+static uint64_t (*const works[WORKS])(struct bench *b) = {read_plainly, copy, structure, check, search, sheet, number};
+static const char *const names[WORKS] = {"read", "copy", "structure", "check", "search", "sheet", "number"};
 
 /* ---- whether they did what is right */
 
@@ -78,14 +87,14 @@ _Noreturn static void wrong(const struct file *f, const char *words) {
 }
 
 static uint64_t right_answer(const struct file *f, enum work work) {
-    const uint64_t answers[WORKS] = {0, 0, f->structure, f->structure, f->search, f->number};
+    const uint64_t answers[WORKS] = {0, 0, f->structure, f->structure, f->search, f->structure, f->number};
     return answers[work];
 }
 
 static void compare_answer(const struct file *f, enum work work, uint64_t answer) {
     static const char *const words[WORKS] = {
         "", "", "the structural check's answer is wrong", "the check's answer is wrong", "the search's answer is wrong",
-        "numbering's answer is wrong"};
+        "the sheet's answer is wrong", "numbering's answer is wrong"};
     if (answer != right_answer(f, work))
         wrong(f, words[work]);
 }
@@ -93,10 +102,17 @@ static void compare_answer(const struct file *f, enum work work, uint64_t answer
 static void compare_untouched(const struct file *f, const uint8_t *bytes, size_t from, size_t to) {
     for (size_t i = from; i < to; i++)
         if (bytes[i] != UNTOUCHED)
-            wrong(f, "the check wrote where it may not");
+            wrong(f, "a call wrote where it may not");
 }
 
-/* What was written, by the check and by numbering. */
+static void compare_sheet(const struct bench *b) {
+    for (size_t k = 0; k < SHEET_NUMBERS; k++)
+        if (cwr_sheet_number(b->sheet, k) != b->file.sheet[k])
+            wrong(&b->file, "a number of the sheet is wrong");
+    compare_untouched(&b->file, b->sheet, CWR_SHEET_BYTES, SHEET_ROOM);
+}
+
+/* What was written, by the check, the sheet and numbering. */
 static void compare_written(const struct bench *b) {
     const struct file *f = &b->file;
     size_t judged = f->structure == f->records ? f->records : 0;
@@ -106,6 +122,7 @@ static void compare_written(const struct bench *b) {
         wrong(f, "a finding is wrong");
     compare_untouched(f, b->verdicts, judged, CWR_MOST_RECORDS);
     compare_untouched(f, b->findings, judged * CWR_FINDING_BYTES, FINDINGS_BYTES);
+    compare_sheet(b);
     if (memcmp(b->out, f->bytes, f->right_length) != 0)
         wrong(f, "the numbered file is wrong");
 }
@@ -171,10 +188,11 @@ static void take_turns(struct bench *b, const struct pace *pace, uint64_t best[W
 }
 
 static void print_heads(void) {
-    printf("%-19s %7s %9s %6s %6s  %-21s  %-21s  %-24s  %-21s\n", "", "", "", "read", "copy", "structure", "check", "search", "number");
+    printf("%-19s %7s %9s %6s %6s  %-21s  %-21s  %-24s  %-15s  %-21s\n", "", "", "", "read", "copy", "structure", "check", "search", "sheet",
+           "number");
     printf("%-19s %7s %9s %6s %6s", "file", "records", "bytes", "ms", "ms");
     printf("  %7s %6s %6s  %7s %6s %6s", "ms", "x read", "ns/rec", "ms", "x read", "ns/rec");
-    printf("  %7s %8s %7s  %7s %6s %6s\n", "ms", "x struct", "x check", "ms", "x copy", "ns/rec");
+    printf("  %7s %8s %7s  %7s %7s  %7s %6s %6s\n", "ms", "x struct", "x check", "ms", "x check", "ms", "x copy", "ns/rec");
 }
 
 static void print_work(const struct file *f, uint64_t took, uint64_t beside) {
@@ -187,12 +205,19 @@ static void print_search(const uint64_t best[WORKS]) {
     printf("  %7.2f %8.2f %7.2f", took / 1e6, took / (double)best[STRUCTURE], took / (double)best[CHECK]);
 }
 
+/* The sheet is a check that writes no buffers, so it stands beside that. */
+static void print_sheet(const uint64_t best[WORKS]) {
+    double took = (double)best[SHEET];
+    printf("  %7.2f %7.2f", took / 1e6, took / (double)best[CHECK]);
+}
+
 static void print_times(const struct file *f, const uint64_t best[WORKS]) {
     printf("%-19s %7lu %9lu %6.2f %6.2f", f->name, (unsigned long)f->records, (unsigned long)f->length, (double)best[READ] / 1e6,
            (double)best[COPY] / 1e6);
     print_work(f, best[STRUCTURE], best[READ]);
     print_work(f, best[CHECK], best[READ]);
     print_search(best);
+    print_sheet(best);
     print_work(f, best[NUMBER], best[COPY]);
     printf("\n");
 }
@@ -210,6 +235,7 @@ static void begin(struct bench *b, const struct maker *maker, uint64_t share) {
     memset(b->out, UNTOUCHED, CWR_MOST_BYTES);
     memset(b->verdicts, UNTOUCHED, CWR_MOST_RECORDS);
     memset(b->findings, UNTOUCHED, FINDINGS_BYTES);
+    memset(b->sheet, UNTOUCHED, SHEET_ROOM);
 }
 
 static void end(struct bench *b) {

@@ -57,9 +57,6 @@ static void close_file(struct file *f) {
 
 /* ---- a work as a catalogue has it */
 
-/* Shares, in hundredths of a percent. */
-enum { HALF = 5000, WHOLE = 10000 };
-
 static void share_out(struct file *f, uint64_t pr, uint64_t others, uint64_t parts, uint64_t part) {
     f->shares[0] = part_of(pr, parts, part);
     f->shares[1] = f->shares[2] = part_of(others, parts, part);
@@ -472,6 +469,26 @@ static uint8_t *room(const char *name, size_t length) {
     return bytes;
 }
 
+/* What the sheet says of its records. Of a file that is refused it says nothing else than that. */
+static void count_records(struct file *f) {
+    for (size_t i = 0; i < f->records; i++) {
+        uint64_t set = cwr_findings_of(f->findings, i);
+        f->sheet[BY_VERDICT + f->verdicts[i]]++;
+        for (unsigned k = 0; k < BY_VERDICT - BY_FINDING; k++)
+            f->sheet[BY_FINDING + k] += set >> k & 1;
+    }
+}
+
+static void finish_sheet(struct file *f) {
+    if (f->structure == f->records) {
+        count_records(f);
+    } else {
+        memset(f->sheet, 0, sizeof f->sheet);
+        f->sheet[1] = 1;
+    }
+    f->sheet[0] = 1;
+}
+
 void make(struct file *f, const struct maker *maker, uint64_t share) {
     memset(f, 0, sizeof *f);
     f->name = maker->name;
@@ -482,6 +499,7 @@ void make(struct file *f, const struct maker *maker, uint64_t share) {
     f->findings = room(f->name, CWR_MOST_RECORDS * CWR_FINDING_BYTES);
     add(f, "HDR");
     maker->make(f, share);
+    finish_sheet(f);
 }
 
 void forget(struct file *f) {

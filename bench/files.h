@@ -14,6 +14,13 @@ struct codes {
     size_t length;
 };
 
+/* The numbers of a sheet, where those of a right begin, and where those by finding and by verdict. */
+enum { SHEET_NUMBERS = CWR_SHEET_BYTES / 8, BY_RIGHT = 2, BY_FINDING = 14, BY_VERDICT = 78 };
+enum { MISSING, SHORTFALL, EXCESS, DIFFERENCES, OF_A_RIGHT, RIGHTS = 3 };
+
+/* Shares, in hundredths of a percent. */
+enum { HALF = 5000, WHOLE = 10000 };
+
 /* What a record's numbers are written from. */
 enum count { GROUPS, GROUP_TRANSACTIONS, GROUP_RECORDS, TRANSACTIONS, RECORDS, TRANSACTION, DETAIL, COUNTS };
 
@@ -23,10 +30,11 @@ struct file {
     size_t length;
     struct codes tables[TABLES];
 
-    /* What is right for it: the answers, and how far numbering leaves it as it is. */
+    /* What is right for it: the answers, how far numbering leaves it as it is, and the numbers of its sheet. */
     uint64_t records, structure, search, number;
     size_t right_length;
     uint8_t *verdicts, *findings;
+    uint64_t sheet[SHEET_NUMBERS];
 
     /* While it is made: the random number, the codes that its records ask for,
      * the counts, where the transaction began, and what the fields of the next
@@ -36,7 +44,7 @@ struct file {
     uint64_t counts[COUNTS];
     size_t transaction_at, transaction_record;
     const char *transaction_type, *role, *relation, *version;
-    uint64_t chain, publisher, writer, shares[3];
+    uint64_t chain, publisher, writer, shares[RIGHTS];
 };
 
 struct maker {

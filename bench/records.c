@@ -104,6 +104,11 @@ static void put_share(struct file *f, const struct field *field, uint8_t *at) {
     put_digits_of(at, field->size, f->shares[field->which]);
 }
 
+/* What is collected in a territory: as much as is owned, but no share of the work. */
+static void put_claim(struct file *f, const struct field *field, uint8_t *at) {
+    put_share(f, field, at);
+}
+
 static void put_chain(struct file *f, const struct field *field, uint8_t *at) {
     put_digits_of(at, field->size, f->chain);
 }
@@ -240,9 +245,9 @@ static const struct field npn[] = {
 };
 static const struct field spt[] = {
     {20, 9, put_publisher, 0,              0},
-    {35, 5, put_share,     0,              0},
-    {40, 5, put_share,     0,              1},
-    {45, 5, put_share,     0,              2},
+    {35, 5, put_claim,     0,              0},
+    {40, 5, put_claim,     0,              1},
+    {45, 5, put_claim,     0,              2},
     {50, 1, put_words,     "I",            0},
     {51, 4, put_choice,    "213608400826", 0},
     {55, 1, put_words,     "N",            0},
@@ -265,9 +270,9 @@ static const struct field swr[] = {
 };
 static const struct field swt[] = {
     {20, 9, put_writer, 0,              0},
-    {29, 5, put_share,  0,              0},
-    {34, 5, put_share,  0,              1},
-    {39, 5, put_share,  0,              2},
+    {29, 5, put_claim,  0,              0},
+    {34, 5, put_claim,  0,              1},
+    {39, 5, put_claim,  0,              2},
     {44, 1, put_words,  "I",            0},
     {45, 4, put_choice, "213608400826", 0},
     {49, 1, put_words,  "N",            0},
@@ -495,8 +500,47 @@ static void note_rejected(struct file *f) {
         f->search = f->counts[TRANSACTIONS] - 1;
 }
 
+/* The number that five digits write; anything else counts nothing. */
+static uint64_t share_at(const uint8_t *at, unsigned size) {
+    uint64_t number = 0;
+    for (unsigned i = 0; i < size; i++) {
+        if (at[i] < '0' || at[i] > '9')
+            return 0;
+        number = number * 10 + (uint64_t)(at[i] - '0');
+    }
+    return number;
+}
+
+/* Of a publisher or writer; no other record has a share of the work. */
+static void add_shares(const struct type *type, const uint8_t *record, uint64_t totals[RIGHTS]) {
+    for (size_t i = 0; i < type->count; i++)
+        if (type->fields[i].put == put_share)
+            totals[type->fields[i].which] += share_at(record + type->fields[i].start - 1, type->fields[i].size);
+}
+
+/* A transaction whose shares of the right come to neither nothing nor all. */
+static void note_missing(uint64_t *of_right, uint64_t total) {
+    uint64_t shortfall = total < WHOLE ? WHOLE - total : 0, excess = total > WHOLE ? total - WHOLE : 0;
+    of_right[MISSING]++;
+    if (shortfall > of_right[SHORTFALL])
+        of_right[SHORTFALL] = shortfall;
+    if (excess > of_right[EXCESS])
+        of_right[EXCESS] = excess;
+    of_right[DIFFERENCES] += total - WHOLE;
+}
+
+static void note_shares(struct file *f) {
+    uint64_t totals[RIGHTS] = {0};
+    for (size_t at = f->transaction_at; at < f->length; at += length_at(f->bytes + at) + 2)
+        add_shares(type_of(f->bytes + at), f->bytes + at, totals);
+    for (size_t right = 0; right < RIGHTS; right++)
+        if (totals[right] != 0 && totals[right] != WHOLE)
+            note_missing(&f->sheet[BY_RIGHT + right * OF_A_RIGHT], totals[right]);
+}
+
 void judge(struct file *f) {
     uint8_t most = 0;
+    note_shares(f);
     for (size_t i = f->transaction_record; i < f->counts[RECORDS]; i++) {
         f->verdicts[i] = own_level(f, i);
         if (f->verdicts[i] > most)

@@ -18,7 +18,7 @@ uint8_t *add(struct file *f, const char *type);
 /* The finding holds on the record with this number. */
 void mark(struct file *f, size_t record, unsigned finding);
 
-/* What follows for the verdicts, and for the search, from the findings that were marked in the transaction. */
+/* What follows for the verdicts and the search from the findings that were marked in the transaction, and for the sheet from its shares. */
 void judge(struct file *f);
 
 /* The length of the record that stands here, without its CR LF. */

@@ -5,6 +5,7 @@
 #include "cwr.h"
 #include "html.h"
 #include "html_parts.h"
+#include "html_sheet.h"
 #include "html_work.h"
 #include "phrases.h"
 #include "writing.h"
@@ -164,6 +165,8 @@ static void add_page(struct out *out, const struct page *page, const struct run 
     say(out, "</p>\n<p class=\"quiet\">");
     say_run(out, run, html_name);
     say(out, "</p>\n");
+    if (run->options->sheet)
+        html_sheet(out, night);
     add_files(out, page);
     add_works(out, page);
     say(out, "</main>\n</body>\n</html>\n");

@@ -17,7 +17,8 @@ const char *const html_style[] = {
     "table { border-collapse: collapse; width: 100%; background: var(--paper); }\n"
     "th, td { text-align: left; vertical-align: top; padding: .35rem .6rem; border: 1px solid var(--line); }\n"
     "th { background: #e9edf1; font-weight: 600; white-space: nowrap; } td { overflow-wrap: anywhere; }\n"
-    "td.count { text-align: right; font-variant-numeric: tabular-nums; white-space: nowrap; }\n",
+    "td.count { text-align: right; font-variant-numeric: tabular-nums; white-space: nowrap; }\n"
+    ".sheet { width: auto; margin: .2rem 0 .8rem; } .sheet th { white-space: normal; }\n",
     ".mark { display: inline-block; padding: 0 .45em; border-radius: 3px; color: #fff; font-size: .82rem; font-weight: 600;\n"
     "  white-space: nowrap; }\n"
     ".s0 { background: var(--ok); } .s1, .FR { background: var(--fr); } .RR { background: var(--rr); }\n"

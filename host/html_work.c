@@ -1,6 +1,7 @@
 #include "html_work.h"
 
 #include "html.h"
+#include "html_finding.h"
 #include "phrases.h"
 
 enum { FULL = 10000 };
@@ -31,14 +32,15 @@ static void add_right(struct out *out, const struct run *run, const struct work 
 static void add_found(struct out *out, const struct run *run, const struct judged *judged, const struct work *work,
                       const struct found *found) {
     const struct finding *words = found->words;
-    const char *level = words ? level_name(words->level) : "GR";
-    say(out, "<div class=\"finding\" data-level=\"%zu\"><p><span class=\"mark %s\">%s</span> line %zu, ", words ? words->level : VERDICTS - 1,
-        level, words ? level : "?", found->record + 1);
+    say(out, "<div class=\"finding\" data-level=\"%zu\"><p>", words ? words->level : VERDICTS - 1);
+    html_level(out, words);
+    say(out, " line %zu, ", found->record + 1);
     html_text(out, text_field(judged->check.records[found->record], 1, 3));
     say(out, ": ");
     say_sentence(out, found);
-    say(out, " <span class=\"quiet number\">finding %u%s%s</span></p>\n", found->number, words ? ", " : "", words ? words->edit : "");
-    say(out, "<dl>\n");
+    say(out, " ");
+    html_number(out, found->number, words);
+    say(out, "</p>\n<dl>\n");
     for (size_t i = 0; i < found->field_count; i++)
         add_field(out, &judged->fields[found->fields + i]);
     for (size_t right = 0; words && words->ranges && right < RIGHTS; right++)

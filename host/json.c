@@ -59,6 +59,11 @@ void json_number(struct json *json, const char *name, size_t value) {
     say(json->out, "%zu", value);
 }
 
+void json_signed(struct json *json, const char *name, int64_t value) {
+    begin(json, name);
+    say(json->out, "%lld", (long long)value);
+}
+
 void json_percent(struct json *json, const char *name, uint64_t hundredths) {
     begin(json, name);
     say(json->out, "%llu.%02llu", (unsigned long long)(hundredths / 100), (unsigned long long)(hundredths % 100));

@@ -23,6 +23,7 @@ void json_end_list(struct json *json);
 void json_end_line(struct json *json);
 
 void json_number(struct json *json, const char *name, size_t value);
+void json_signed(struct json *json, const char *name, int64_t value);
 void json_percent(struct json *json, const char *name, uint64_t hundredths);
 void json_truth(struct json *json, const char *name, bool value);
 

@@ -1,4 +1,5 @@
 /* An object a line, for other programs to read: JSON by RFC 8259, in UTF-8. */
+#include "cwr.h"
 #include "json.h"
 #include "reports.h"
 #include "version.h"
@@ -216,8 +217,45 @@ static void begin_total(struct json *json, const struct run *run, const struct n
     json_end_object(json);
 }
 
+/* Shares as the library's sheet has them. */
+static void print_rights(struct json *json, const uint8_t *sheet) {
+    json_list(json, "rights");
+    for (size_t right = 0; right < RIGHTS; right++) {
+        json_object(json, NULL);
+        json_words(json, "of", right_names[right]);
+        json_number(json, "transactions_that_miss", (size_t)cwr_sheet_missing(sheet, right));
+        json_number(json, "largest_shortfall_hundredths", (size_t)cwr_sheet_shortfall(sheet, right));
+        json_number(json, "largest_excess_hundredths", (size_t)cwr_sheet_excess(sheet, right));
+        json_signed(json, "sum_hundredths", cwr_sheet_sum(sheet, right));
+        json_end_object(json);
+    }
+    json_end_list(json);
+}
+
+static void print_sheet(struct json *json, const struct night *night) {
+    const struct sheet *sheet = &night->sheet;
+    size_t tally[FINDINGS], by[VERDICTS], failed = night->by_outcome[OUTCOME_FAILED];
+    sheet_tally(sheet, tally);
+    sheet_records_by(sheet, by);
+    json_object(json, NULL);
+    json_words(json, "kind", "sheet");
+    json_truth(json, "complete", sheet->left_out == 0 && failed == 0);
+    json_number(json, "files", (size_t)cwr_sheet_files(sheet->bytes));
+    json_number(json, "files_refused", (size_t)cwr_sheet_refused(sheet->bytes));
+    json_number(json, "files_left_out", sheet->left_out);
+    json_number(json, "files_not_checked", failed);
+    print_rights(json, sheet->bytes);
+    json_number(json, "records", records_sum(by));
+    print_counts(json, "records_by_verdict", by, verdict_of_record);
+    print_tally(json, tally);
+    json_end_line(json);
+}
+
+/* The total stays the last line. */
 static void print_night(struct out *out, const struct run *run, const struct night *night) {
     struct json json = json_to(out);
+    if (run->options->sheet)
+        print_sheet(&json, night);
     begin_total(&json, run, night);
     json_number(&json, "groups", night->groups);
     json_number(&json, "works", night->works);

@@ -53,9 +53,17 @@ struct bytes field_shown(const struct found_field *field) {
     return trimmed.length == 0 || field->field->size > SHORT_FIELD ? trimmed : field->text;
 }
 
-size_t tally_sum(const size_t tally[FINDINGS]) {
+static size_t sum_of(const size_t *numbers, size_t count) {
     size_t sum = 0;
-    for (size_t i = 0; i < FINDINGS; i++)
-        sum += tally[i];
+    for (size_t i = 0; i < count; i++)
+        sum += numbers[i];
     return sum;
+}
+
+size_t tally_sum(const size_t tally[FINDINGS]) {
+    return sum_of(tally, FINDINGS);
+}
+
+size_t records_sum(const size_t by[VERDICTS]) {
+    return sum_of(by, VERDICTS);
 }

@@ -109,7 +109,8 @@ struct bytes header_title(struct bytes header);
 /* Of a field, the text as it is to be shown: spaces around a long one are nothing, in a code or a number they count. */
 struct bytes field_shown(const struct found_field *field);
 
-/* How many findings a tally counts. */
+/* How many findings a tally counts, and how many records are counted by verdict. */
 size_t tally_sum(const size_t tally[FINDINGS]);
+size_t records_sum(const size_t by[VERDICTS]);
 
 #endif

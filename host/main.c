@@ -8,6 +8,7 @@
 #include "number.h"
 #include "options.h"
 #include "out.h"
+#include "phrases.h"
 #include "progress.h"
 #include "reports.h"
 #include "run.h"
@@ -51,6 +52,10 @@ static void check_one(struct session *session, const struct name *name) {
         judge_failed(name->path, name->why, &judged);
     else
         judge(session->run, name->path, &judged);
+    if (session->run->options->sheet && !sheet_take(&session->night.sheet, session->run, &judged)) {
+        judged_free(&judged);
+        judge_failed(name->path, "gets from the library one answer from the check and another for the sheet", &judged);
+    }
     night_add(&session->night, &judged);
     tell(session, &judged);
     judged_free(&judged);
@@ -66,6 +71,9 @@ static enum status check_all(struct out *out, const struct run *run, const struc
         check_one(&session, &names->list[i]);
     }
     progress_end(&session.progress);
+    /* For the same reason. */
+    if (session.night.sheet.left_out > 0)
+        complain("%s", sheet_lack(&session.night).words);
     if (report->end)
         report->end(out, run, &session.night);
     return !page || page_write(page, run, &session.night) ? session.night.status : STATUS_FAILED;

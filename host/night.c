@@ -13,4 +13,7 @@ void night_add(struct night *night, const struct judged *judged) {
     for (size_t i = 0; i < FINDINGS; i++)
         night->tally[i] += judged->tally[i];
     night->status = worse_of(night->status, outcome_status(judged->outcome));
+    /* A sheet of all files was asked for, and there is none. */
+    if (night->sheet.left_out > 0)
+        night->status = STATUS_FAILED;
 }

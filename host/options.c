@@ -2,6 +2,7 @@
 
 #include <string.h>
 
+#include "cwr.h"
 #include "out.h"
 #include "words.h"
 
@@ -18,13 +19,14 @@ const char options_usage[] =
     "  --first          of each file the first work that is rejected for something in itself; nothing else is looked for\n"
     "  --list           a line a record of one file, for other programs to read\n"
     "  --summary        the outcome of each file, the totals and how often each finding holds, and no more\n"
+    "  --sheet          the client's catalogue sheet of all files as well: shares that miss the whole, records by finding and verdict\n"
     "  --level LEVEL    findings of this level and above: FR, RR, TR or GR\n"
     "  --most N         findings of a file that are told, or all; 1000 where it is not given\n"
     "  --html OUT       write a page for the clerk to OUT as well\n"
     "  --force          replace OUT where it exists; FILE itself is never replaced\n"
     "\n"
     "status: 0 all accepted, or numbered, or with --first no work rejected; 1 defaults or records left out; 2 works rejected;\n"
-    "3 files refused; 4 wrong use, or reading or writing failed\n";
+    "3 files refused; 4 wrong use, or reading or writing failed, or files left out of the sheet\n";
 
 static bool wrong_use(const char *words, const char *about) {
     return complain("%s%s; cwrcheck --help says how it is used", words, about);
@@ -112,6 +114,7 @@ static const struct option known[] = {
     {"--list", FLAG(list)},
     {"--first", FLAG(first)},
     {"--summary", FLAG(summary)},
+    {"--sheet", FLAG(sheet)},
     {"--recursive", FLAG(recursive)},
     {"--force", FLAG(force)},
     {"--tables", 0, take_tables},
@@ -157,24 +160,39 @@ static int take_option(struct options *options, const char *word, const char *ne
 
 /* Numbering looks at no table and at no share, and reports nothing. */
 static bool fits_numbering(const struct options *options) {
-    if (options->tables || options->list || options->first || options->summary || options->recursive || options->html ||
-        options->has_tolerance || options->has_format || options->has_level || options->has_most)
+    if (options->tables || options->list || options->first || options->summary || options->sheet || options->recursive ||
+        options->html || options->has_tolerance || options->has_format || options->has_level || options->has_most)
         return wrong_use("--number takes one file, and of the options --force alone", "");
     return options->count == 1 || wrong_use("--number takes one file", "");
 }
+
+/* Its figures would contradict those of a report with another tolerance. */
+static bool fits_sheet(const struct options *options) {
+    if (options->format == FORMAT_LINE)
+        return wrong_use("--sheet has no lines for findings: --format text or json", "");
+    return !options->has_tolerance || options->tolerance == CWR_LARGEST_TOLERANCE ||
+           wrong_use("--sheet has the tolerance 6, and takes no other", "");
+}
+
+/* What a report on all works has, and neither the first work alone nor a listing. */
+static bool reports_all(const struct options *options) {
+    return options->summary || options->sheet || options->has_level || options->has_most || options->html;
+}
+
+#define REPORTS_ALL "--summary nor --sheet nor --level nor --most nor --html"
 
 static bool fits_check(const struct options *options) {
     if (!options->tables)
         return wrong_use("no folder of tables is named: --tables FOLDER", "");
     if (options->force && !options->html)
         return wrong_use("--force belongs to --number and --html", "");
-    if (options->first && (options->list || options->summary || options->has_level || options->has_most || options->html))
-        return wrong_use("--first tells one work of a file, and takes neither --list nor --summary nor --level nor --most nor --html", "");
-    if (options->list && (options->has_format || options->summary || options->has_level || options->has_most || options->html))
-        return wrong_use("--list is a format of its own, and takes neither --summary nor --level nor --most nor --html", "");
+    if (options->first && (options->list || reports_all(options)))
+        return wrong_use("--first tells one work of a file, and takes neither --list nor " REPORTS_ALL, "");
+    if (options->list && (options->has_format || reports_all(options)))
+        return wrong_use("--list is a format of its own, and takes neither " REPORTS_ALL, "");
     if (options->summary && options->format == FORMAT_LINE)
         return wrong_use("--summary has no lines for findings: --format text or json", "");
-    return true;
+    return !options->sheet || fits_sheet(options);
 }
 
 static bool fits(const struct options *options) {

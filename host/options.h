@@ -11,7 +11,7 @@ enum format { FORMAT_TEXT, FORMAT_LINE, FORMAT_JSON, FORMAT_LIST };
 enum { MOST_FINDINGS = 1000 }; /* of a file, where nothing else is asked for */
 
 struct options {
-    bool help, version, list, first, summary, recursive, force;
+    bool help, version, list, first, summary, sheet, recursive, force;
     bool has_tolerance, has_format, has_level, has_most;
     uint64_t tolerance;
     enum format format;

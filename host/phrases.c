@@ -1,5 +1,8 @@
 #include "phrases.h"
 
+#include <stdio.h>
+#include <string.h>
+
 #include "cwr.h"
 #include "version.h"
 
@@ -129,7 +132,7 @@ void say_field(struct out *out, const struct found_field *field) {
 }
 
 void say_sentence(struct out *out, const struct found *found) {
-    say(out, "%s", found->words ? found->words->sentence : "this program has no words for it");
+    say(out, "%s", finding_sentence(found->words));
     if (found->words && found->words->put)
         say(out, " The society's default: %s.", found->words->put);
 }
@@ -142,4 +145,30 @@ void say_left_out(struct out *out, const struct judged *judged) {
         say(out, " rejected with the group for nothing in itself");
     }
     say(out, " left out; --most N or --most all tells more");
+}
+
+void say_taken(struct out *out, const struct sheet *sheet) {
+    say_count(out, (size_t)cwr_sheet_files(sheet->bytes), "file");
+    say(out, " taken, %zu of them refused", (size_t)cwr_sheet_refused(sheet->bytes));
+}
+
+const char sheet_shares_words[] =
+    "A transaction misses where its shares of a right come to neither 0.00% nor exactly 100.00%, whatever the tolerance; the sum has a "
+    "minus where it is short.";
+
+static void add_lack(struct lack *lack, size_t files, const char *what) {
+    size_t length = strlen(lack->words);
+    snprintf(lack->words + length, sizeof lack->words - length, "%s%zu file%s %s %s not in it.", length > 0 ? " " : "", files,
+             files == 1 ? "" : "s", what, files == 1 ? "is" : "are");
+}
+
+struct lack sheet_lack(const struct night *night) {
+    struct lack lack = {""};
+    if (night->sheet.left_out > 0) {
+        snprintf(lack.words, sizeof lack.words, "%s", refusal_words(SHEET_REFUSED)->sentence);
+        add_lack(&lack, night->sheet.left_out, "after them");
+    }
+    if (night->by_outcome[OUTCOME_FAILED] > 0)
+        add_lack(&lack, night->by_outcome[OUTCOME_FAILED], "could not be checked and");
+    return lack;
 }

@@ -52,4 +52,17 @@ void say_sentence(struct out *out, const struct found *found);
 /* How much was not told, in one sentence. */
 void say_left_out(struct out *out, const struct judged *judged);
 
+/* Of a sheet: "2 files taken, 1 of them refused" */
+void say_taken(struct out *out, const struct sheet *sheet);
+
+/* What its figures on shares mean, in one sentence. */
+extern const char sheet_shares_words[];
+
+/* What of a night is not in its sheet, in a sentence or two; nothing where all is. */
+struct lack {
+    char words[256];
+};
+
+struct lack sheet_lack(const struct night *night);
+
 #endif

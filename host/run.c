@@ -4,8 +4,6 @@
 #include "out.h"
 #include "words.h"
 
-enum { TOLERANCE_REFUSED = 1, TABLE_REFUSED = 2 };
-
 /* Where no tolerance was asked for, the short form of the call. */
 uint64_t run_check(const struct run *run, struct bytes file, uint8_t *verdicts, size_t verdicts_length, uint8_t *findings,
                    size_t findings_length) {
@@ -21,6 +19,12 @@ uint64_t run_first(const struct run *run, struct bytes file) {
     const struct table *of = run->tables.of;
     return cwr_first_rejected(run->tolerance, file.at, file.length, of[0].codes, of[0].length, of[1].codes, of[1].length, of[2].codes,
                               of[2].length);
+}
+
+uint64_t run_sheet(const struct run *run, struct bytes file, uint8_t *sheet, size_t sheet_length) {
+    const struct table *of = run->tables.of;
+    return cwr_sheet_add(sheet, sheet_length, file.at, file.length, of[0].codes, of[0].length, of[1].codes, of[1].length, of[2].codes,
+                         of[2].length);
 }
 
 /* The library looks at the tolerance and the tables before any file, so the empty one shows what it says of them. */

@@ -24,4 +24,7 @@ uint64_t run_check(const struct run *run, struct bytes file, uint8_t *verdicts, 
 /* The library asked for the first work to look at alone, which it finds without judging the rest. */
 uint64_t run_first(const struct run *run, struct bytes file);
 
+/* The library asked to add the file to a sheet, for which it checks it by itself, with the tolerance of sheets. */
+uint64_t run_sheet(const struct run *run, struct bytes file, uint8_t *sheet, size_t sheet_length);
+
 #endif

@@ -50,11 +50,21 @@ void add_shares(struct shares *shares, struct bytes record) {
     }
 }
 
-struct percent percent_of(uint64_t hundredths) {
+static struct percent percent_with(const char *sign, uint64_t hundredths) {
     struct percent percent;
-    snprintf(percent.words, sizeof percent.words, "%llu.%02llu%%", (unsigned long long)(hundredths / 100),
+    snprintf(percent.words, sizeof percent.words, "%s%llu.%02llu%%", sign, (unsigned long long)(hundredths / 100),
              (unsigned long long)(hundredths % 100));
     return percent;
+}
+
+struct percent percent_of(uint64_t hundredths) {
+    return percent_with("", hundredths);
+}
+
+/* The least number of all has no positive one beside it, so it is turned round as a number without sign. */
+struct percent signed_percent_of(int64_t hundredths) {
+    uint64_t number = (uint64_t)hundredths;
+    return hundredths < 0 ? percent_with("-", 0 - number) : percent_with(hundredths > 0 ? "+" : "", number);
 }
 
 struct range_words range_within(const struct range *range, uint64_t tolerance) {

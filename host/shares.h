@@ -39,6 +39,9 @@ struct percent {
 
 struct percent percent_of(uint64_t hundredths);
 
+/* The same with its sign: "-60.00%", "+0.04%"; nothing has none. */
+struct percent signed_percent_of(int64_t hundredths);
+
 /* "at most 50.06%", "0.00%, or 99.94% to 100.06%", "0.00% to 0.06%, or 49.94% to 100.06%" */
 struct range_words {
     char words[128];

@@ -121,9 +121,44 @@ static void print_tally(struct out *out, const size_t tally[FINDINGS]) {
         const struct finding *words = finding_words(number);
         if (tally[number] > 0)
             say(out, "%9zu  finding %u (%s, %s): %s\n", tally[number], number, words ? level_name(words->level) : "?",
-                words ? words->edit : "?", words ? words->sentence : "this program has no words for it");
+                words ? words->edit : "?", finding_sentence(words));
     }
 }
+
+/* ---- its sheet */
+
+static void print_rights(struct out *out, const uint8_t *sheet) {
+    say(out, "\n%s\n  right  transactions that miss  largest shortfall  largest excess  sum of differences\n", sheet_shares_words);
+    for (size_t right = 0; right < RIGHTS; right++)
+        say(out, "     %s  %22zu  %17s  %14s  %18s\n", right_names[right], (size_t)cwr_sheet_missing(sheet, right),
+            percent_of(cwr_sheet_shortfall(sheet, right)).words, percent_of(cwr_sheet_excess(sheet, right)).words,
+            signed_percent_of(cwr_sheet_sum(sheet, right)).words);
+}
+
+static void print_records(struct out *out, const struct sheet *sheet) {
+    size_t tally[FINDINGS], by[VERDICTS];
+    sheet_tally(sheet, tally);
+    sheet_records_by(sheet, by);
+    say(out, "\nRecords by finding%s\n", tally_sum(tally) == 0 ? ": no record has one" : "");
+    print_tally(out, tally);
+    say(out, "\nRecords by verdict\n");
+    for (size_t verdict = 0; verdict < VERDICTS; verdict++)
+        say(out, "%9zu  %s\n", by[verdict], verdict_of_record(verdict));
+    say(out, "%9zu  in all\n", records_sum(by));
+}
+
+static void print_sheet(struct out *out, const struct night *night) {
+    struct lack lack = sheet_lack(night);
+    say(out, "\nCatalogue sheet: ");
+    say_taken(out, &night->sheet);
+    say(out, "\n");
+    if (lack.words[0] != '\0')
+        say(out, "%s\n", lack.words);
+    print_rights(out, night->sheet.bytes);
+    print_records(out, &night->sheet);
+}
+
+/* ---- its totals */
 
 static void print_files(struct out *out, const struct night *night) {
     say(out, "\nTotal: ");
@@ -145,6 +180,8 @@ static void print_night(struct out *out, const struct run *run, const struct nig
     say(out, "\n");
     if (run->options->summary)
         print_tally(out, night->tally);
+    if (run->options->sheet)
+        print_sheet(out, night);
 }
 
 static void print_run(struct out *out, const struct run *run) {

@@ -196,13 +196,18 @@ static const struct refusal refusals[] = {
     [9] = {PLACE_LINE, "The group number (GRT, start 4) or a count in the trailer is wrong."},
     [10] = {PLACE_LINE, "The HDR does not say version 2.2 (start 102) with a revision from 000 to 002 (start 105)."},
     [11] = {PLACE_NOTHING, "This program lent the library too little room; it is a fault of the program."},
+    [SHEET_REFUSED] = {PLACE_NOTHING, "The sheet is full: it takes 4,096 files, refused ones counted."},
 };
 
 _Static_assert(sizeof findings / sizeof findings[0] == 47, "findings 0 to 46");
-_Static_assert(sizeof refusals / sizeof refusals[0] == 12, "refusals 1 to 11");
+_Static_assert(sizeof refusals / sizeof refusals[0] == 13, "refusals 1 to 12");
 
 const struct finding *finding_words(uint32_t number) {
     return number < sizeof findings / sizeof findings[0] ? &findings[number] : NULL;
+}
+
+const char *finding_sentence(const struct finding *finding) {
+    return finding ? finding->sentence : "this program has no words for it";
 }
 
 const struct refusal *refusal_words(uint32_t number) {

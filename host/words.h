@@ -35,6 +35,9 @@ struct finding {
 /* Null for a number that is none. */
 const struct finding *finding_words(uint32_t number);
 
+/* What it says; of null, that this program has no words for it. */
+const char *finding_sentence(const struct finding *finding);
+
 /* FR, RR, TR or GR; and the level of that name, 0 where it is none. */
 const char *level_name(size_t level);
 size_t level_named(const char *name);
@@ -46,6 +49,9 @@ struct refusal {
     enum place place;
     const char *sentence;
 };
+
+/* Those that are no fault of a file. */
+enum { TOLERANCE_REFUSED = 1, TABLE_REFUSED = 2, SHEET_REFUSED = 12 };
 
 /* Null for a number that is none. */
 const struct refusal *refusal_words(uint32_t number);

@@ -1,5 +1,5 @@
 /* The library's calls from C: a CWR 2.2 file is checked, searched for the first
- * work to look at, or numbered.
+ * work to look at, numbered, or added to a catalogue sheet.
  *
  * What is lent to a call
  * - Every slice is a pointer and a length in bytes. No pointer may be null, not
@@ -9,18 +9,19 @@
  * - Calls may run in several threads at once, as long as none writes what is
  *   lent to another: between calls nothing is kept, and the library has no
  *   data of its own that is written.
- * - A check takes up to 67 KB of stack, as does a search for the first work, and
+ * - A check takes up to 67 KB of stack, as do a search and a sheet, and
  *   numbering up to 3 KB (measured, by `bench/run stack`); 128 KB are enough for
  *   any call. No memory is allocated.
  * - A record is the text before a CR LF pair; records count from 0.
  *
- * What is answered by the first four calls
+ * What is answered by the first five calls
  * - Passed: the number of records, or of a transaction, which is below 2^32.
  * - Refused: the refusal's number times 2^32, plus its place. Then not a byte is
- *   written.
+ *   written; only a sheet counts the file, where that is refused by 2 to 10.
  *
  * The refusals, in the order in which they are looked for, each over the whole
- * file before the next; the place is a record unless another is said:
+ * file before the next; the place is a record unless another is said. The call
+ * for a sheet looks for 11 and 12 first, in this order:
  *    1  the tolerance is above 6                                    place 0
  *    2  a table's length does not fit its entries, or it has over
  *       1,024 of them       place: 0 languages, 1 societies, 2 categories
@@ -35,6 +36,7 @@
  *    9  a wrong number in a GRT or the TRL
  *   10  the HDR's version is not 2.2, or its revision not 000 to 002  place 0
  *   11  a buffer that is to be written is too short                 place 0
+ *   12  the sheet is full: it has taken 4,096 files                 place 0
  *
  * The findings, 0 to 46, are listed in docs/FINDINGS.md: the level of each, its
  * edit in CISAC's specification, the default, and what it says in words.
@@ -59,6 +61,8 @@ extern "C" {
 #define CWR_FINDING_BYTES 8u           /* of a record's set of findings */
 #define CWR_NONE 64u                   /* the lowest finding of an empty set */
 #define CWR_NO_TRANSACTION 4294967295u /* there is none to look at */
+#define CWR_SHEET_BYTES 664u           /* of a sheet: 83 numbers */
+#define CWR_SHEET_FILES 4096u          /* of a sheet, refused ones counted */
 
 /* A record's verdict: what a society would do. */
 enum cwr_verdict {
@@ -68,6 +72,9 @@ enum cwr_verdict {
     CWR_TRANSACTION_REJECTED = 3,
     CWR_GROUP_REJECTED = 4
 };
+
+/* A right: performing, mechanical, synchronisation. */
+enum cwr_right { CWR_PR = 0, CWR_MR = 1, CWR_SR = 2 };
 
 /* Checks a file with tolerance 6, so never answers refusal 1.
  *
@@ -123,6 +130,48 @@ uint64_t cwr_first_rejected(uint64_t tolerance,
 uint64_t cwr_number(const uint8_t *file, size_t file_length,
                     uint8_t *out, size_t out_length);
 
+/* Adds a file to a catalogue sheet, which tells of all the files that it has
+ * taken together: what the clerk of a client wants of a whole migration.
+ *
+ * A sheet is CWR_SHEET_BYTES bytes, lent by the caller, all zeros before the
+ * first file. It is 83 numbers of 8 bytes, least significant byte first:
+ *     0        the files that were taken
+ *     1        those of them that were refused
+ *     2 to 5   PR: the transactions that miss the full share, the largest
+ *              shortfall, the largest excess, the sum of the differences
+ *     6 to 9   MR: the same
+ *    10 to 13  SR: the same
+ *    14 to 77  the records with finding 0, 1, up to 63
+ *    78 to 82  the records with verdict 0, 1, up to 4
+ * A transaction misses where all its shares of the right, of publishers and
+ * writers, come to neither 0 nor exactly 10000, which is all of it; no tolerance
+ * is given here. Shares are in hundredths of a percent, and one that is not five
+ * digits counts 0. A difference is that from 10000, negative where it is short;
+ * the sum is in two's complement. The largest of none is 0. Transactions and
+ * records are those of the files that passed, rejected ones and control records
+ * among them.
+ *
+ * The file is checked with tolerance 6, as cwr_check does it, and the answer is
+ * the check's: passed, or refused by 2 to 10, with the same place. No buffers
+ * are lent for it. Passed: each number becomes what it is over the list of all
+ * files taken, this one among them, in whatever order they came; so the counts
+ * by verdict come to the records of the files that passed. Refused by 2 to 10:
+ * the numbers 0 and 1 become larger by one, and nothing else is changed.
+ *
+ * `sheet` needs CWR_SHEET_BYTES bytes, or it is refused by 11; bytes beyond stay
+ * as they were. Where its number 0 is CWR_SHEET_FILES or more, it is refused by
+ * 12. Both are looked for before anything of the file and the tables, and then
+ * nothing is changed.
+ *
+ * What the numbers become holds of a sheet as these calls left it. From any other
+ * bytes the call still ends, and changes nothing but the sheet; a sum there stops
+ * at the largest number that it has room for, or the least where it is short. */
+uint64_t cwr_sheet_add(uint8_t *sheet, size_t sheet_length,
+                       const uint8_t *file, size_t file_length,
+                       const uint8_t *languages, size_t languages_length,
+                       const uint8_t *societies, size_t societies_length,
+                       const uint8_t *categories, size_t categories_length);
+
 /* How many findings a set has, 0 to 64. */
 uint32_t cwr_findings_count(uint64_t set);
 
@@ -145,13 +194,62 @@ static inline uint32_t cwr_place(uint64_t answer) {
     return (uint32_t)(answer & 0xffffffffu);
 }
 
+/* Entry k of numbers of eight bytes, least significant byte first: so the check
+ * writes its findings, and so a sheet is made. */
+static inline uint64_t cwr_entry(const uint8_t *entries, size_t k) {
+    const uint8_t *bytes = entries + k * 8;
+    uint64_t number = 0;
+    for (unsigned at = 8; at > 0; at--)
+        number = number << 8 | bytes[at - 1];
+    return number;
+}
+
 /* The set of findings of one record, as the check wrote it. */
 static inline uint64_t cwr_findings_of(const uint8_t *findings, size_t record) {
-    const uint8_t *bytes = findings + record * CWR_FINDING_BYTES;
-    uint64_t set = 0;
-    for (unsigned at = CWR_FINDING_BYTES; at > 0; at--)
-        set = set << 8 | bytes[at - 1];
-    return set;
+    return cwr_entry(findings, record);
+}
+
+/* Number k of a sheet, 0 to 82; and by what they are: the files taken, and those
+ * of them that were refused; */
+static inline uint64_t cwr_sheet_number(const uint8_t *sheet, size_t k) {
+    return cwr_entry(sheet, k);
+}
+
+static inline uint64_t cwr_sheet_files(const uint8_t *sheet) {
+    return cwr_sheet_number(sheet, 0);
+}
+
+static inline uint64_t cwr_sheet_refused(const uint8_t *sheet) {
+    return cwr_sheet_number(sheet, 1);
+}
+
+/* of a right, 0 PR, 1 MR, 2 SR: the transactions that miss the full share; and
+ * in hundredths of a percent the largest shortfall, the largest excess, and the
+ * sum of the differences, negative where it is short; */
+static inline uint64_t cwr_sheet_missing(const uint8_t *sheet, size_t right) {
+    return cwr_sheet_number(sheet, 2 + 4 * right);
+}
+
+static inline uint64_t cwr_sheet_shortfall(const uint8_t *sheet, size_t right) {
+    return cwr_sheet_number(sheet, 3 + 4 * right);
+}
+
+static inline uint64_t cwr_sheet_excess(const uint8_t *sheet, size_t right) {
+    return cwr_sheet_number(sheet, 4 + 4 * right);
+}
+
+static inline int64_t cwr_sheet_sum(const uint8_t *sheet, size_t right) {
+    uint64_t sum = cwr_sheet_number(sheet, 5 + 4 * right);
+    return sum >> 63 == 0 ? (int64_t)sum : -(int64_t)~sum - 1;
+}
+
+/* and the records with a finding, 0 to 63, or with a verdict, 0 to 4. */
+static inline uint64_t cwr_sheet_finding(const uint8_t *sheet, size_t finding) {
+    return cwr_sheet_number(sheet, 14 + finding);
+}
+
+static inline uint64_t cwr_sheet_verdict(const uint8_t *sheet, size_t verdict) {
+    return cwr_sheet_number(sheet, 78 + verdict);
 }
 
 #ifdef __cplusplus

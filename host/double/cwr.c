@@ -5,6 +5,8 @@
  *   CWR_DOUBLE_FINDS "1ff"       each record gets this set of findings, in hexadecimal
  *   CWR_DOUBLE_VERDICT "3"       and this verdict
  *   CWR_DOUBLE_FIRST "4"         this is the first work to look at, counted from 0; where it is not told, there is none
+ *   CWR_DOUBLE_SHEET "2=7 5=-4"  of a sheet, number 2 becomes 7 and number 5 becomes -4 with each file
+ *   CWR_DOUBLE_DISAGREES "1"     the sheet's call answers so many records more than the check
  *   CWR_DOUBLE_MISCOUNTS "1"     the answer is this many records too large
  *   CWR_DOUBLE_LENGTH "183"      a record of any type has this length
  *   CWR_DOUBLE_SLEEPS "2"        each check takes so many seconds
@@ -12,7 +14,8 @@
  *   CWR_DOUBLE_STOPS "15"        this signal comes while a file is written
  *   CWR_DOUBLE_UNSYNCED "1"      no folder can be synced
  *
- * Otherwise a file passes with as many records as it has CR LF pairs, all accepted, and numbering copies it. */
+ * Otherwise a file passes with as many records as it has CR LF pairs, all accepted, a sheet counts the files alone, and numbering copies
+ * them. */
 #include "cwr.h"
 
 #include <errno.h>
@@ -79,6 +82,34 @@ uint64_t cwr_first_rejected(uint64_t tolerance, const uint8_t *file, size_t file
     if (answered >> 32 != 0)
         return answered;
     return getenv("CWR_DOUBLE_FIRST") ? told("CWR_DOUBLE_FIRST", 10) : CWR_NO_TRANSACTION;
+}
+
+static void put(uint8_t *sheet, uint64_t k, uint64_t number) {
+    for (size_t at = 0; at < 8; at++)
+        sheet[8 * k + at] = (uint8_t)(number >> (8 * at));
+}
+
+static void put_told(uint8_t *sheet) {
+    const char *words = getenv("CWR_DOUBLE_SHEET");
+    for (char *rest; words && strchr(words, '='); words = rest) {
+        uint64_t k = strtoull(words, &rest, 10);
+        put(sheet, k, strtoull(rest + 1, &rest, 10));
+    }
+}
+
+uint64_t cwr_sheet_add(uint8_t *sheet, size_t sheet_length, const uint8_t *file, size_t file_length, const uint8_t *languages,
+                       size_t languages_length, const uint8_t *societies, size_t societies_length, const uint8_t *categories,
+                       size_t categories_length) {
+    uint64_t answered = answer(file, file_length);
+    (void)languages, (void)languages_length, (void)societies, (void)societies_length, (void)categories, (void)categories_length;
+    if (sheet_length < CWR_SHEET_BYTES)
+        return 11ull << 32;
+    if (cwr_sheet_files(sheet) >= CWR_SHEET_FILES)
+        return 12ull << 32;
+    put(sheet, 0, cwr_sheet_files(sheet) + 1);
+    put(sheet, 1, cwr_sheet_refused(sheet) + (answered >> 32 != 0));
+    put_told(sheet);
+    return answered + told("CWR_DOUBLE_DISAGREES", 10);
 }
 
 uint64_t cwr_number(const uint8_t *file, size_t file_length, uint8_t *out, size_t out_length) {
