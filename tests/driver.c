@@ -170,6 +170,9 @@ u32 cwr_record_length(const u8 *record, size length);
 u64 cwr_first_rejected(u64 tolerance, const u8 *file, size file_len, const u8 *languages,
                        size languages_len, const u8 *societies, size societies_len,
                        const u8 *categories, size categories_len);
+u64 cwr_sheet_add(u8 *sheet, size sheet_len, const u8 *file, size file_len, const u8 *languages,
+                  size languages_len, const u8 *societies, size societies_len,
+                  const u8 *categories, size categories_len);
 
 /* Lends the file's records one by one; the lengths of their types go to the
  * first buffer. The records lie in one room in turn, each with its begin or its
@@ -216,6 +219,9 @@ static void call(u8 letter, u64 value, u64 guard, struct part *parts, u64 *answe
     } else if (letter == 'f') {
         answer[0] = cwr_first_rejected(value, LENT(THE_FILE), LENT(LANGUAGES), LENT(SOCIETIES),
                                        LENT(CATEGORIES));
+    } else if (letter == 'h') {
+        answer[0] = cwr_sheet_add(LENT(FIRST), LENT(THE_FILE), LENT(LANGUAGES), LENT(SOCIETIES),
+                                  LENT(CATEGORIES));
     } else {
         exit(3);
     }

@@ -3,8 +3,8 @@
 //! All numbers little-endian. Every request has the same form: letter of the
 //! call, guard (a byte), a u64 (the tolerance, or a set of findings), the u32
 //! lengths of four lent parts (file, languages, societies, categories) and of
-//! two buffers, then the parts and the buffers as they are before the call.
-//! What a call doesn't take has length 0. Reply: three u64, a byte that is 1
+//! two buffers, then the parts and the buffers as they are before the call. A
+//! sheet is the first buffer. What a call doesn't take has length 0. Reply: three u64, a byte that is 1
 //! where a lent part was changed, and the buffers as they are after the call.
 //!
 //! `record` is asked of many records at once, which the driver lends one by one:
@@ -31,6 +31,8 @@ pub enum Call {
     Record,
     /// The first transaction with a TR or GR finding of its own.
     First,
+    /// A file added to a sheet.
+    Sheet,
     /// Refusals 3 to 10 alone, with the numbers of groups and transactions.
     Structure,
     /// Numbering, with the numbers of groups and transactions.
@@ -48,13 +50,14 @@ pub enum Program {
 }
 
 impl Call {
-    pub const ALL: [Call; 9] = [
+    pub const ALL: [Call; 10] = [
         Call::Check,
         Call::Within,
         Call::Number,
         Call::Bits,
         Call::Record,
         Call::First,
+        Call::Sheet,
         Call::Structure,
         Call::Counted,
         Call::Listing,
@@ -68,6 +71,7 @@ impl Call {
             Call::Bits => "bits",
             Call::Record => "record",
             Call::First => "first",
+            Call::Sheet => "sheet",
             Call::Structure => "structure",
             Call::Counted => "counted",
             Call::Listing => "listing",
@@ -76,15 +80,14 @@ impl Call {
 
     pub fn program(self) -> Program {
         match self {
-            Call::Check | Call::Within | Call::Number | Call::Bits | Call::Record | Call::First => {
-                Program::Driver
-            }
             Call::Structure | Call::Counted => Program::Probe,
             Call::Listing => Program::Listing,
+            _ => Program::Driver,
         }
     }
 
-    /// Each its first letter, and the listing is no request.
+    /// Each its first letter or one that is heard in its name; the listing is no
+    /// request.
     fn letter(self) -> u8 {
         match self {
             Call::Check => b'c',
@@ -93,6 +96,7 @@ impl Call {
             Call::Bits => b'b',
             Call::Record => b'r',
             Call::First => b'f',
+            Call::Sheet => b'h',
             Call::Structure => b's',
             Call::Counted => b'k',
             Call::Listing => b'l',
@@ -141,7 +145,8 @@ pub struct Request {
     pub file: Vec<u8>,
     /// Languages, societies, categories.
     pub tables: [Vec<u8>; 3],
-    /// Verdicts and findings, or the output of numbering and nothing.
+    /// Verdicts and findings, or the output of numbering or the sheet and
+    /// nothing.
     pub buffers: [Vec<u8>; 2],
 }
 
@@ -177,12 +182,7 @@ impl Request {
     }
 
     pub fn tables(&self) -> Tables<'_> {
-        let [languages, societies, categories] = &self.tables;
-        Tables {
-            languages,
-            societies,
-            categories,
-        }
+        Tables::of(&self.tables)
     }
 
     /// The bytes that are sent.
@@ -355,6 +355,7 @@ pub fn expected(request: &Request) -> Reply {
         Call::Check => reference::check_short(file, &tables, &mut first, &mut second),
         Call::Within => reference::check(request.number, file, &tables, &mut first, &mut second),
         Call::Number | Call::Counted => reference::numbering(file, &mut first),
+        Call::Sheet => reference::sheet_add(&mut first, file, &tables),
         Call::Structure => reference::structure(file),
         Call::Bits => {
             return Reply {

@@ -7,11 +7,13 @@ pub mod damage;
 pub mod each;
 pub mod lent;
 pub mod right;
+pub mod sheets;
 pub mod values;
 pub mod works;
 
 use crate::calls::{Call, Guard, Request};
 use crate::reference::lent::LARGEST_TOLERANCE;
+use crate::reference::sheet::BYTES;
 use damage::{Damage, Hand};
 use works::Lent;
 
@@ -97,13 +99,18 @@ pub struct Case {
     /// The records whose types' lengths are asked, where they are not the
     /// file's.
     pub records: Vec<Vec<u8>>,
+    /// A sheet of its own, as it is before the call.
+    pub sheet: Vec<u8>,
+    /// The seeds of the files that one sheet is carried over, in this order;
+    /// such a case has no file of its own.
+    pub list: Vec<u64>,
     /// What is to be compared.
     pub calls: Vec<Call>,
 }
 
 impl Case {
-    /// A case with the usual tables, the largest tolerance and buffers that
-    /// are just long enough.
+    /// A case with the usual tables, the largest tolerance, buffers that are
+    /// just long enough and a fresh sheet.
     pub fn new(seed: u64, kind: String, file: Vec<u8>, calls: &[Call]) -> Case {
         let mut random = Random::new(seed);
         let mut calls = calls.to_vec();
@@ -134,9 +141,16 @@ impl Case {
             out: random.pattern(numbered),
             set: random.draw(),
             records: Vec::new(),
+            sheet: vec![0; BYTES],
+            list: Vec::new(),
             file,
             calls,
         }
+    }
+
+    /// Whether it is one of a file; such a file goes into sheets.
+    pub fn lends_a_file(&self) -> bool {
+        self.list.is_empty() && self.calls.iter().any(|call| call.takes_a_file())
     }
 
     /// The tolerance that a call has: the short form of the check none but
@@ -186,9 +200,20 @@ impl Case {
                 request.number = self.tolerance_of(Call::First);
                 request.tables = self.tables.clone();
             }
+            Call::Sheet => {
+                request.tables = self.tables.clone();
+                request.buffers[0] = self.sheet.clone();
+            }
             Call::Number | Call::Counted => request.buffers[0] = self.out.clone(),
             _ => {}
         }
+        request
+    }
+
+    /// What asks for the file to be added to this sheet.
+    pub fn added_to(&self, sheet: Vec<u8>, guard: Guard) -> Request {
+        let mut request = self.request(Call::Sheet, guard);
+        request.buffers[0] = sheet;
         request
     }
 }
@@ -283,6 +308,11 @@ pub fn case(seed: u64) -> Option<Case> {
     ] {
         let length = lent::length(enough, too_short, &mut random);
         *buffer = random.pattern(length);
+    }
+    // Into a sheet that is carried over, each file goes besides.
+    if random.one_in(8) {
+        case.sheet = sheets::any(&mut random);
+        case.calls.push(Call::Sheet);
     }
     Some(case)
 }

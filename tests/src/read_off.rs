@@ -1,6 +1,7 @@
-//! The first work to look at, as a caller would read it off the findings that
-//! a check has written, whoever wrote them. Not the reference's way: the
-//! transactions are taken one by one, with all findings of each together.
+//! What one answer says of another, as a caller would read it off, whoever gave
+//! them. The first work to look at, of the findings that a check has written;
+//! not the reference's way: the transactions are taken one by one, with all
+//! findings of each together. And the records of all files passed, of a sheet.
 
 use crate::calls::Reply;
 use crate::reference::first::NO_TRANSACTION;
@@ -37,6 +38,14 @@ pub fn first_rejected(file: &[u8], checked: &Reply) -> Option<u64> {
     let transactions = transactions(file, checked);
     let first = transactions.iter().position(|set| set & rejecting != 0);
     Some(first.map_or(NO_TRANSACTION, |first| first as u64))
+}
+
+/// The records that the five verdicts of a sheet come to; they are its last
+/// numbers. A sheet of any bytes may have more than 64 bits count.
+pub fn records_on_sheet(sheet: &[u8]) -> u128 {
+    let verdicts = sheet[624..664].chunks_exact(8);
+    let records = |bytes: &[u8]| u64::from_le_bytes(bytes.try_into().expect("eight bytes"));
+    verdicts.map(|bytes| u128::from(records(bytes))).sum()
 }
 
 #[cfg(test)]
@@ -102,5 +111,18 @@ mod tests {
             }
         }
         assert!(read > 2000, "{read}");
+    }
+
+    /// Each of the five numbers counts, and no other.
+    #[test]
+    fn read_off_any_sheet() {
+        assert_eq!(records_on_sheet(&[0; 664]), 0);
+        for number in 0..83 {
+            let mut sheet = [0; 700];
+            sheet[8 * number..8 * number + 8].fill(255);
+            let records = if number >= 78 { u64::MAX } else { 0 };
+            assert_eq!(records_on_sheet(&sheet), u128::from(records), "{number}");
+        }
+        assert_eq!(records_on_sheet(&[255; 664]), 5 * u128::from(u64::MAX));
     }
 }

@@ -151,6 +151,65 @@ pub unsafe extern "C" fn cwr_first_rejected(
 /// # Safety
 /// As above.
 #[no_mangle]
+#[allow(clippy::too_many_arguments)]
+pub unsafe extern "C" fn cwr_sheet_add(
+    sheet: *mut u8,
+    sheet_len: usize,
+    file: *const u8,
+    file_len: usize,
+    languages: *const u8,
+    languages_len: usize,
+    societies: *const u8,
+    societies_len: usize,
+    categories: *const u8,
+    categories_len: usize,
+) -> u64 {
+    let tables = Tables {
+        languages: from_raw_parts(languages, languages_len),
+        societies: from_raw_parts(societies, societies_len),
+        categories: from_raw_parts(categories, categories_len),
+    };
+    let answer = reference::sheet_add(
+        from_raw_parts_mut(sheet, sheet_len),
+        from_raw_parts(file, file_len),
+        &tables,
+    );
+    if fault("sheet-reads-after-file") {
+        look(file.add(file_len));
+    }
+    if fault("sheet-reads-before-file") {
+        look(file.sub(1));
+    }
+    if fault("sheet-reads-after-table") {
+        look(societies.add(societies_len));
+    }
+    if fault("sheet-reads-before-table") {
+        look(categories.sub(1));
+    }
+    if fault("sheet-writes-after-sheet") {
+        sheet.add(sheet_len).write_volatile(0);
+    }
+    if fault("sheet-writes-before-sheet") {
+        sheet.sub(1).write_volatile(0);
+    }
+    if fault("sheet-reads-first-number") {
+        look(sheet.add(7));
+    }
+    if fault("sheet-reads-last-number") {
+        look(sheet.add(reference::sheet::BYTES - 1));
+    }
+    if fault("sheet-changes-file") && file_len > 0 {
+        file.cast_mut().write_volatile(0);
+    }
+    if fault("sheet-changes-table") && languages_len > 0 {
+        languages.cast_mut().write_volatile(0);
+    }
+    answer.packed()
+}
+
+/// # Safety
+/// As above.
+#[no_mangle]
 pub unsafe extern "C" fn cwr_number(
     file: *const u8,
     file_len: usize,

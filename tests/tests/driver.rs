@@ -69,7 +69,7 @@ fn no_difference() {
     for options in [&["--files", "1500"][..], &["--guard"]] {
         let (code, text) = compare(options, "");
         assert_eq!(code, Some(0), "{text}");
-        for call in ["within", "record", "first", "counted"] {
+        for call in ["within", "record", "first", "sheet", "counted"] {
             assert!(text.contains(&format!("\n{call} ")), "{text}");
         }
     }
@@ -94,6 +94,16 @@ fn faults_about_memory_are_found() {
         ("first-reads-before-table", "before", "SIGSEGV"),
         ("first-changes-file", "after", "is changed"),
         ("first-changes-table", "after", "is changed"),
+        ("sheet-reads-after-file", "after", "SIGSEGV"),
+        ("sheet-reads-before-file", "before", "SIGSEGV"),
+        ("sheet-reads-after-table", "after", "SIGSEGV"),
+        ("sheet-reads-before-table", "before", "SIGSEGV"),
+        ("sheet-writes-after-sheet", "after", "SIGSEGV"),
+        ("sheet-writes-before-sheet", "before", "SIGSEGV"),
+        ("sheet-reads-first-number", "after", "SIGSEGV"),
+        ("sheet-reads-last-number", "after", "SIGSEGV"),
+        ("sheet-changes-file", "after", "is changed"),
+        ("sheet-changes-table", "after", "is changed"),
         ("changes-file", "after", "is changed"),
         ("changes-table", "after", "is changed"),
         ("changes-record", "after", "is changed"),

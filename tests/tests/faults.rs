@@ -72,6 +72,8 @@ fn one_call_alone() {
         ("bits", "record-8-bits"),
         ("record", "refuses-everything"),
         ("first", "writes-nothing"),
+        ("sheet", "first-none-0"),
+        ("within", "sheet-afresh"),
     ] {
         let options: Vec<_> = run.into_iter().chain([call]).collect();
         let (code, text) = compare(&options, &["--fault", fault], true);
@@ -83,6 +85,7 @@ fn one_call_alone() {
             "bits",
             "record",
             "first",
+            "sheet",
             "structure",
             "counted",
             "listing",
@@ -136,7 +139,7 @@ fn faults() -> Vec<String> {
 #[test]
 fn each_fault_is_found() {
     let (faults, next) = (faults(), AtomicUsize::new(0));
-    assert!(faults.len() > 250);
+    assert!(faults.len() >= 420, "{}", faults.len());
     // Each finding has one that begins with its number.
     for finding in 0..=46 {
         let own = |fault: &String| fault.starts_with(&format!("{finding}-"));
@@ -161,9 +164,13 @@ fn is_found(number: usize, fault: &str) {
     std::fs::create_dir_all(&found).expect("a directory");
     let listing = fault.starts_with("listing");
     let mut options = vec!["--workers", "1"];
-    // What is read off the findings of the check is compared without this.
+    let of_sheet = fault.starts_with("sheet");
+    // What is read off the findings of the check is compared without this; and
+    // other calls need not be asked before.
     if fault.starts_with("first: ") {
         options.extend(["--only", "first"]);
+    } else if of_sheet {
+        options.extend(["--only", "sheet"]);
     }
     match fault {
         "hangs" => options.extend(["--wait", "2"]),
@@ -178,16 +185,21 @@ fn is_found(number: usize, fault: &str) {
     assert!(text.starts_with("difference\n"), "{fault}: {text}");
     let of_first = fault.starts_with("first") && fault != "first-transaction-only";
     assert_eq!(of_first, entry(&text, "call") == "first", "{fault}: {text}");
+    assert_eq!(of_sheet, entry(&text, "call") == "sheet", "{fault}: {text}");
     // The file that was written is the one whose seed is named.
     let written = std::fs::read(entry(&text, "file")).expect("the file");
     let seed = entry(&text, "seed");
     let made = tests::generate::case(seed.parse().expect("a number")).expect("a case");
     assert_eq!(made.kind, entry(&text, "kind"));
     assert!(made.file == written, "{fault}");
-    // The seed alone brings the difference again; tried for some.
-    if number % 4 == 0 {
+    // The seed alone brings the difference again, with the sheet that it was
+    // added to; tried for some.
+    if number % 4 == 0 && fault != "sheet-second-sheet" {
         options.retain(|option| *option != "--limits");
         options.extend(["--one", seed]);
+        if of_sheet {
+            options.extend(["--sheet", entry(&text, "sheet")]);
+        }
         let (code, again) = compare_in(&found, &options, &mock, listing);
         assert_eq!(code, Some(1), "{fault}: {again}");
         assert!(again.contains("difference\n"), "{fault}: {again}");
@@ -231,6 +243,53 @@ fn first_is_read_off_the_findings() {
     }
 }
 
+/// A difference of a carried sheet tells where its verdicts are not those of the
+/// records passed, and which number is another.
+#[test]
+fn sheets_are_read_off() {
+    for (fault, read_off, number) in [
+        ("sheet-control-records-not-counted", true, "verdict 0"),
+        ("sheet-verdict-4-left-out", true, "verdict 4"),
+        ("sheet-verdict-4-not-raised", false, "verdict 0"),
+        ("sheet-without-sign", false, "PR differences"),
+        ("sheet-findings-on-headers", false, "finding "),
+        ("sheet-refused-not-counted", false, "files refused"),
+    ] {
+        let options = ["--only", "sheet", "--workers", "1"];
+        let (code, text) = compare(&options, &["--fault", fault], false);
+        assert_eq!(code, Some(1), "{fault}: {text}");
+        assert!(entry(&text, "number").contains(number), "{fault}: {text}");
+        assert_eq!(text.contains("read off"), read_off, "{fault}: {text}");
+        if read_off {
+            let words: Vec<_> = entry(&text, "read off").split(' ').collect();
+            assert_eq!(
+                [words[0], words[1], words[3]],
+                ["verdicts", "of", "records,"]
+            );
+            assert_ne!(words[2], words[4], "{text}");
+        }
+    }
+}
+
+/// A list by itself: in another order, the sheet must be the same.
+#[test]
+fn lists_in_another_order() {
+    let lists = tests::generate::seeds(0, 20_000).into_iter();
+    let mut lists = lists.filter_map(tests::generate::case);
+    let list = lists.find(|case| !case.list.is_empty()).expect("a list");
+    let seed = list.seed.to_string();
+    let options = ["--one", &seed];
+    let (code, text) = compare(&options, &[], false);
+    assert_eq!(code, Some(0), "{text}");
+    let (code, text) = compare(&options, &["--fault", "sheet-second-sheet"], false);
+    assert_eq!(code, Some(1), "{text}");
+    assert!(
+        text.contains("  library    from the list's end, the sheet is another\n"),
+        "{text}"
+    );
+    assert!(entry(&text, "number").contains("verdict 4"), "{text}");
+}
+
 #[test]
 fn what_cannot_be_compared() {
     let run = |arguments: &[&str]| {
@@ -247,6 +306,12 @@ fn what_cannot_be_compared() {
     );
     assert_eq!(run(&["--one", "16000000", "--", MOCK]), Some(2));
     assert_eq!(run(&["--only", "x", "--", MOCK]), Some(2));
+    // A sheet without its file, and one that there is none of.
+    assert_eq!(run(&["--sheet", MOCK, "--", MOCK]), Some(2));
+    assert_eq!(
+        run(&["--one", "1", "--sheet", "no-such-sheet", "--", MOCK]),
+        Some(2)
+    );
     // A file that is made for numbering.
     let alone = ["--one", "1", "--only", "structure", "--", MOCK, "--", MOCK];
     assert_eq!(run(&alone), Some(2));

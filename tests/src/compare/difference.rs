@@ -2,8 +2,9 @@
 
 use std::fmt::Write;
 
-use tests::calls::{describe_first, Call, Guard, Reply, Request};
+use tests::calls::{Call, Guard, Reply, Request};
 use tests::generate::Case;
+use tests::reference::sheet::{FINDINGS, NUMBERS};
 
 /// What all differences tell: the call, the file and how to have it again.
 pub fn head(case: &Case, call: Call, guard: Guard) -> String {
@@ -17,23 +18,28 @@ pub fn head(case: &Case, call: Call, guard: Guard) -> String {
     if guard != Guard::None {
         add("guard", &format!("{guard:?}").to_lowercase());
     }
-    let path = std::env::temp_dir().join(format!("difference-{}.cwr", case.seed));
-    match std::fs::write(&path, &case.file) {
-        Ok(()) => add("file", &path.display().to_string()),
-        Err(error) => add("file", &format!("not written: {error}")),
-    }
+    add("file", &write(case, "cwr", &case.file));
     add("bytes", &case.file.len().to_string());
     text
 }
 
+/// Writes what belongs to a difference; says where it is.
+fn write(case: &Case, kind: &str, bytes: &[u8]) -> String {
+    let path = std::env::temp_dir().join(format!("difference-{}.{kind}", case.seed));
+    match std::fs::write(&path, bytes) {
+        Ok(()) => path.display().to_string(),
+        Err(error) => format!("not written: {error}"),
+    }
+}
+
 /// Of two replies, or of a reply and no reply; or of a reply and what is read
-/// off the findings of the library's own check.
+/// off the library's other answers.
 pub fn of_replies(
     case: &Case,
     request: &Request,
     reference: &Reply,
     library: &Result<Reply, String>,
-    read_off: Option<u64>,
+    read_off: Option<String>,
 ) -> String {
     let call = request.call;
     let mut text = head(case, call, request.guard);
@@ -42,9 +48,12 @@ pub fn of_replies(
     };
     match call {
         Call::Bits => add("set", &format!("{:#x}", request.number)),
-        Call::Check | Call::Within | Call::First => {
-            if call != Call::Check {
+        Call::Check | Call::Within | Call::First | Call::Sheet => {
+            if matches!(call, Call::Within | Call::First) {
                 add("tolerance", &request.number.to_string());
+            }
+            if call == Call::Sheet {
+                add("sheet", &write(case, "sheet", &request.buffers[0]));
             }
             for (name, table) in ["languages", "societies", "categories"]
                 .iter()
@@ -65,8 +74,8 @@ pub fn of_replies(
         }
     }
     add("reference", &reference.describe(call));
-    if let Some(answer) = read_off {
-        add("read off", &describe_first(answer));
+    if let Some(words) = read_off {
+        add("read off", &words);
     }
     let library = match library {
         Err(how) => {
@@ -84,6 +93,11 @@ pub fn of_replies(
     if call == Call::Record {
         if let Some((name, words)) = of_lengths(request, reference, library) {
             add(&name, &words);
+        }
+    }
+    if call == Call::Sheet {
+        if let Some(words) = of_numbers(&reference.buffers[0], &library.buffers[0]) {
+            add("number", &words);
         }
     }
     for (name, which) in [("buffer", 0), ("second", 1)] {
@@ -142,6 +156,47 @@ fn of_lengths(request: &Request, reference: &Reply, library: &Reply) -> Option<(
         length(library)
     );
     Some((format!("record {record}"), words))
+}
+
+/// The first number of two sheets that is not the same.
+fn of_numbers(reference: &[u8], library: &[u8]) -> Option<String> {
+    let mut numbers = reference.chunks_exact(8).zip(library.chunks_exact(8));
+    let at = numbers.position(|(one, other)| one != other)?;
+    let name = match at {
+        0 => "files".to_string(),
+        1 => "files refused".to_string(),
+        2..14 => {
+            let right = ["PR", "MR", "SR"][(at - 2) / 4];
+            let figure = ["misses", "shortfall", "excess", "differences"][(at - 2) % 4];
+            format!("{right} {figure}")
+        }
+        _ if at < 14 + FINDINGS => format!("records with finding {}", at - 14),
+        _ if at < NUMBERS => format!("records with verdict {}", at - 14 - FINDINGS),
+        _ => "beyond the sheet".to_string(),
+    };
+    let number = |sheet: &[u8]| {
+        let bytes = &sheet[8 * at..8 * at + 8];
+        let number = u64::from_le_bytes(bytes.try_into().expect("eight bytes"));
+        match name.ends_with("differences") {
+            true => (number as i64).to_string(),
+            false => number.to_string(),
+        }
+    };
+    Some(format!(
+        "{at}, {name}: reference {}, library {}",
+        number(reference),
+        number(library)
+    ))
+}
+
+/// Of two sheets of a list, each made of all its files.
+pub fn of_sheets(list: &Case, words: &str, one: &[u8], other: &[u8]) -> String {
+    let mut text = head(list, Call::Sheet, Guard::None);
+    let _ = writeln!(text, "  library    {words}");
+    if let Some(words) = of_numbers(one, other) {
+        let _ = writeln!(text, "  number     {words}");
+    }
+    text
 }
 
 /// Of two listings.

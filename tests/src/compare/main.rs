@@ -3,6 +3,7 @@
 
 mod difference;
 mod options;
+mod sheets;
 mod tally;
 
 use std::process::ExitCode;
@@ -10,12 +11,18 @@ use std::sync::atomic::{AtomicUsize, Ordering};
 use std::sync::Mutex;
 
 use options::Options;
+use sheets::Carried;
 use tally::{Tally, TOO_LONG};
-use tests::calls::{expected, Call, Guard, Program, Reply};
+use tests::calls::{describe_first, expected, Call, Guard, Program, Reply, Request};
 use tests::driver::{list, Driver};
 use tests::generate::{case, limits, seeds, spread, Case};
 use tests::read_off::first_rejected;
 use tests::reference;
+
+/// So many files at a time; one sheet is carried over them. Few, since the last
+/// ones are large, and most of the largest figures of a sheet come from its
+/// first files. There are longer lists besides.
+const AT_A_TIME: usize = 4;
 
 /// Why a run, or a part of it, ended early.
 enum Stop {
@@ -32,16 +39,17 @@ fn main() -> ExitCode {
         None if options.guard => spread(options.run, options.files()),
         None => seeds(options.run, options.files()),
     };
+    let parts: Vec<&[u64]> = seeds.chunks(AT_A_TIME).collect();
     let (next, tally) = (AtomicUsize::new(0), Mutex::new(Tally::new()));
     // The stops, with how far the run had come.
     let stops: Mutex<Vec<(usize, Stop)>> = Mutex::default();
     std::thread::scope(|scope| {
-        for _ in 0..options.workers.min(seeds.len()) {
+        for _ in 0..options.workers.min(parts.len()) {
             scope.spawn(|| {
                 let mut mine = Tally::new();
-                if let Err(stop) = work(&options, &seeds, &next, &mut mine) {
-                    // The others end with the file they are at.
-                    let at = next.swap(seeds.len(), Ordering::SeqCst);
+                if let Err(stop) = work(&options, &parts, &next, &mut mine) {
+                    // The others end with the files they are at.
+                    let at = next.swap(parts.len(), Ordering::SeqCst);
                     stops.lock().expect("stops").push((at, stop));
                 }
                 tally.lock().expect("tally").add(&mine);
@@ -77,7 +85,7 @@ fn main() -> ExitCode {
 /// Compares the files whose turn it is, with drivers of its own.
 fn work(
     options: &Options,
-    seeds: &[u64],
+    parts: &[&[u64]],
     next: &AtomicUsize,
     tally: &mut Tally,
 ) -> Result<(), Stop> {
@@ -92,31 +100,13 @@ fn work(
         },
     };
     let mut drivers = [start(Program::Driver)?, start(Program::Probe)?];
-    while let Some(&seed) = seeds.get(next.fetch_add(1, Ordering::SeqCst)) {
-        let Some(case) = case(seed) else {
-            return Err(Stop::Failed(format!("no file has the seed {seed}")));
-        };
-        let calls: Vec<_> = case
-            .calls
-            .iter()
-            .filter(|call| options.asked(**call))
-            .collect();
-        tally.files += u64::from(!calls.is_empty());
-        // What the library has written in a check, for what can be read off it.
-        let mut checked = None;
-        for &call in calls {
-            let driver = match call.program() {
-                Program::Listing => {
-                    compare_listing(options, &case, tally)?;
-                    continue;
-                }
-                Program::Driver => &mut drivers[0],
-                Program::Probe => &mut drivers[1],
+    while let Some(seeds) = parts.get(next.fetch_add(1, Ordering::SeqCst)) {
+        let mut carried = Carried::fresh();
+        for &seed in *seeds {
+            let Some(case) = case(seed) else {
+                return Err(Stop::Failed(format!("no file has the seed {seed}")));
             };
-            let reply = compare_call(options, &case, call, driver, checked.as_ref(), tally)?;
-            if call.is_check() && case.tolerance_of(call) == case.tolerance_of(Call::First) {
-                checked = Some(reply);
-            }
+            compare_case(options, case, &mut drivers, &mut carried, tally)?;
         }
     }
     for driver in drivers.into_iter().flatten() {
@@ -127,37 +117,97 @@ fn work(
     Ok(())
 }
 
-/// The library's reply, which is the reference's; with a guard, the last. What
-/// `first` answers is compared with the findings of the library's own check too,
-/// where that was asked before.
+/// Compares all that is asked of a file.
+fn compare_case(
+    options: &Options,
+    mut case: Case,
+    drivers: &mut [Option<Driver>; 2],
+    carried: &mut Carried,
+    tally: &mut Tally,
+) -> Result<(), Stop> {
+    if let Some(sheet) = &options.sheet {
+        case.sheet = sheet.clone();
+        case.calls = vec![Call::Sheet];
+    }
+    let calls = case.calls.iter();
+    let calls: Vec<_> = calls.filter(|call| options.asked(**call)).collect();
+    // Every file goes into the sheet that is carried over, but where one is given.
+    let is_carried = options.asked(Call::Sheet) && options.sheet.is_none() && case.lends_a_file();
+    tally.files += u64::from(!calls.is_empty() || is_carried);
+    // What the library has written in a check, for what can be read off it.
+    let mut checked = None;
+    let there = "asked only where there is a driver";
+    for &call in calls {
+        let driver = match call.program() {
+            Program::Listing => {
+                compare_listing(options, &case, tally)?;
+                continue;
+            }
+            Program::Driver => drivers[0].as_mut().expect(there),
+            Program::Probe => drivers[1].as_mut().expect(there),
+        };
+        if !case.list.is_empty() {
+            sheets::compare_list(options, &case, driver, tally)?;
+            continue;
+        }
+        let reply = compare_call(options, &case, call, driver, checked.as_ref(), tally)?;
+        if call.is_check() && case.tolerance_of(call) == case.tolerance_of(Call::First) {
+            checked = Some(reply);
+        }
+    }
+    if is_carried {
+        let driver = drivers[0].as_mut().expect(there);
+        carried.add(options, &case, driver, tally)?;
+    }
+    Ok(())
+}
+
+/// Compares a call for a file. What `first` answers is compared with the findings
+/// of the library's own check too, where that was asked before.
 fn compare_call(
     options: &Options,
     case: &Case,
     call: Call,
-    driver: &mut Option<Driver>,
+    driver: &mut Driver,
     checked: Option<&Reply>,
     tally: &mut Tally,
 ) -> Result<Reply, Stop> {
-    let driver = driver.as_mut().expect("asked only where there is a driver");
-    let guards: &[Guard] = match options.guard {
-        true => &[Guard::After, Guard::Before],
-        false => &[Guard::None],
-    };
-    let mut request = case.request(call, guards[0]);
-    let reference = expected(&request);
     let read_off = match call {
         Call::First => checked.and_then(|checked| first_rejected(&case.file, checked)),
         _ => None,
     };
-    for &guard in guards {
+    let otherwise = |reply: &Reply| {
+        let answer = read_off.filter(|&answer| answer != reply.packed);
+        answer.map(describe_first)
+    };
+    let request = case.request(call, Guard::None);
+    let reply = compare_request(options, case, request, driver, &otherwise, tally)?;
+    tally.read_off += u64::from(read_off.is_some());
+    Ok(reply)
+}
+
+/// The library's reply, which is the reference's; with a guard, the last. Where
+/// what is read off the library's other answers is another than this one, it
+/// says so in words.
+fn compare_request(
+    options: &Options,
+    case: &Case,
+    mut request: Request,
+    driver: &mut Driver,
+    otherwise: &dyn Fn(&Reply) -> Option<String>,
+    tally: &mut Tally,
+) -> Result<Reply, Stop> {
+    let reference = expected(&request);
+    for &guard in options.guards() {
         request.guard = guard;
         let library = driver.ask(&request);
-        let as_read = |reply: &Reply| read_off.is_none_or(|answer| answer == reply.packed);
-        if library.as_ref() != Ok(&reference) || !library.as_ref().is_ok_and(as_read) {
+        let read_off = library.as_ref().ok().and_then(otherwise);
+        if library.as_ref() != Ok(&reference) || read_off.is_some() {
             let text = difference::of_replies(case, &request, &reference, &library, read_off);
             return Err(Stop::Difference(text));
         }
     }
+    let call = request.call;
     if options.one.is_some() {
         println!(
             "{} {}: {}",
@@ -167,7 +217,6 @@ fn compare_call(
         );
     }
     tally.reply(&request, &reference);
-    tally.read_off += u64::from(read_off.is_some());
     Ok(reference)
 }
 

@@ -3,11 +3,11 @@
 use std::process::exit;
 use std::time::Duration;
 
-use tests::calls::{Call, Program};
+use tests::calls::{Call, Guard, Program};
 
 const USAGE: &str = "\
-compare [--files N] [--seed S] [--one SEED] [--limits] [--only CALL] [--guard]
-        [--wait SECONDS] [--workers N]
+compare [--files N] [--seed S] [--one SEED [--sheet FILE]] [--limits]
+        [--only CALL] [--guard] [--wait SECONDS] [--workers N]
         -- DRIVER ARG... [-- PROBE ARG... [-- LISTING ARG...]]
 
   --files N       compare N files (20000, with --guard 1000); from 10000 on,
@@ -16,9 +16,11 @@ compare [--files N] [--seed S] [--one SEED] [--limits] [--only CALL] [--guard]
                   often enough
   --seed S        other files (0; below 2^32)
   --one SEED      only the file of this seed, as a difference names it
+  --sheet FILE    only added to the sheet of these bytes, as a difference names
+                  it too: the sheet has all that was added before
   --limits        only the files at the limits
   --only CALL     one call alone: check, within, number, bits, record, first,
-                  structure, counted or listing
+                  sheet, structure, counted or listing
   --guard         everything that is lent lies directly before a page that
                   cannot be used, and once more directly after one
   --wait SECONDS  how long an answer may take (300)
@@ -38,6 +40,7 @@ pub struct Options {
     files: Option<u64>,
     pub run: u64,
     pub one: Option<u64>,
+    pub sheet: Option<Vec<u8>>,
     pub limits: bool,
     only: Option<Call>,
     pub guard: bool,
@@ -70,6 +73,14 @@ impl Options {
             && (!self.guard || guardable)
     }
 
+    /// Where what is lent lies, one after the other.
+    pub fn guards(&self) -> &'static [Guard] {
+        match self.guard {
+            true => &[Guard::After, Guard::Before],
+            false => &[Guard::None],
+        }
+    }
+
     /// Whether the least numbers are asked.
     pub fn with_least(&self) -> bool {
         self.one.is_none() && !self.limits && !self.guard && self.files() >= FILES
@@ -81,6 +92,7 @@ pub fn options() -> Options {
         files: None,
         run: 0,
         one: None,
+        sheet: None,
         limits: false,
         only: None,
         guard: false,
@@ -114,6 +126,13 @@ pub fn options() -> Options {
             }
             continue;
         }
+        if word == "--sheet" {
+            options.sheet = std::fs::read(value).ok();
+            if options.sheet.is_none() {
+                usage();
+            }
+            continue;
+        }
         match (word.as_str(), value.parse().ok()) {
             ("--files", Some(value)) => options.files = Some(value),
             ("--seed", Some(value)) if value >> 32 == 0 => options.run = value,
@@ -124,7 +143,8 @@ pub fn options() -> Options {
         }
     }
     let none = options.commands.iter().all(|command| command.is_empty());
-    if none || parts.next().is_some() {
+    let sheet_alone = options.sheet.is_some() && options.one.is_none();
+    if none || sheet_alone || parts.next().is_some() {
         usage();
     }
     options

@@ -4,6 +4,7 @@ use std::collections::BTreeMap;
 
 use tests::calls::{Call, Reply, Request};
 use tests::reference::first::NO_TRANSACTION;
+use tests::reference::sheet::Sheet;
 
 use crate::options::Options;
 
@@ -33,6 +34,12 @@ pub struct Tally {
     pub files: u64,
     /// Answers of `first` that were compared with the library's own findings.
     pub read_off: u64,
+    /// For each right, files that have added to the transactions that miss the
+    /// full share, to the largest shortfall, and to the largest excess.
+    rights: [[u64; 3]; 3],
+    /// Files added to a carried sheet, and lists in another order.
+    pub carried: u64,
+    pub orders: u64,
 }
 
 impl Tally {
@@ -66,6 +73,9 @@ impl Tally {
             return self.answer(call, answer_of_first(&request.file, reply.packed));
         }
         self.answer(call, reply.refusal());
+        if call == Call::Sheet && reply.refusal() == 0 {
+            return self.sheet(&request.buffers[0], &reply.buffers[0]);
+        }
         if !call.is_check() || reply.refusal() != 0 {
             return;
         }
@@ -84,6 +94,17 @@ impl Tally {
         }
     }
 
+    /// Counts which figures of the rights a file has raised.
+    fn sheet(&mut self, before: &[u8], after: &[u8]) {
+        let [before, after] = [before, after].map(|sheet| Sheet::of_bytes(sheet).rights);
+        for (right, counts) in self.rights.iter_mut().enumerate() {
+            let (before, after) = (before[right], after[right]);
+            counts[0] += u64::from(after.misses > before.misses);
+            counts[1] += u64::from(after.shortfall > before.shortfall);
+            counts[2] += u64::from(after.excess > before.excess);
+        }
+    }
+
     pub fn add(&mut self, other: &Tally) {
         for (&key, number) in &other.answers {
             *self.answers.entry(key).or_default() += number;
@@ -96,8 +117,15 @@ impl Tally {
         for (count, more) in self.verdicts.iter_mut().zip(other.verdicts) {
             *count += more;
         }
+        for (mine, others) in self.rights.iter_mut().zip(&other.rights) {
+            for (count, more) in mine.iter_mut().zip(others) {
+                *count += more;
+            }
+        }
         self.files += other.files;
         self.read_off += other.read_off;
+        self.carried += other.carried;
+        self.orders += other.orders;
     }
 
     /// Prints the numbers; false where one is less than it should be.
@@ -120,7 +148,7 @@ impl Tally {
             }
             // Refusals in their order, then passed.
             let others = [TOO_LONG, NO_LENGTH, NONE, 0, LATER, LATER_GROUP];
-            for answer in (1..=11).chain(others) {
+            for answer in (1..=12).chain(others) {
                 let number = self.answers.get(&(call, answer)).copied().unwrap_or(0);
                 let words = match answer {
                     0 if call == Call::Record => "length".to_string(),
@@ -141,6 +169,15 @@ impl Tally {
             let both = options.asked(Call::Check) && options.asked(Call::Within);
             let least = if both { 8000 } else { 0 };
             line("first     as findings", &[self.read_off], least);
+        }
+        if options.asked(Call::Sheet) {
+            for (right, counts) in ["PR", "MR", "SR"].iter().zip(self.rights) {
+                for (figure, &files) in ["misses", "short", "excess"].iter().zip(&counts) {
+                    line(&format!("sheet     {right} {figure}"), &[files], 500);
+                }
+            }
+            line("sheet     as verdicts", &[self.carried], 15_000);
+            line("sheet     other order", &[self.orders], 8);
         }
         if !options.asked(Call::Check) && !options.asked(Call::Within) {
             return enough;
@@ -190,15 +227,16 @@ fn least_answer(call: Call, answer: u64) -> u64 {
         (Call::Within, 1) => 200,
         (Call::First, 1) => 200,
         (_, 1) => 0,
-        (Call::Check | Call::Within | Call::First, 2) => 200,
+        (Call::Check | Call::Within | Call::First | Call::Sheet, 2) => 200,
         (_, 2) => 0,
-        (Call::Within | Call::First, 3 | 5) | (Call::Number, 3 | 5) => 1,
+        (Call::Within | Call::First | Call::Sheet | Call::Number, 3 | 5) => 1,
         (_, 3 | 5) => 0,
         (Call::Counted, 0 | 4 | 6 | 7 | 10 | 11) => 50,
         (_, 0 | 4 | 6) => 300,
         (_, 7) => 200,
-        (Call::Check | Call::Within | Call::First | Call::Structure, 8..=10) => 200,
-        (Call::Check | Call::Within, 11) => 200,
+        (Call::Check | Call::Within | Call::First | Call::Sheet | Call::Structure, 8..=10) => 200,
+        (Call::Check | Call::Within | Call::Sheet, 11) => 200,
+        (Call::Sheet, 12) => 200,
         (Call::Number, 10 | 11) => 200,
         _ => 0,
     }

@@ -1,10 +1,11 @@
 //! Small files that go through every possibility in turn: every type, every
-//! step, every number's byte, every byte value; and records by themselves. Their
-//! seeds are their numbers here, counted from `FIRST`.
+//! step, every number's byte, every byte value; records by themselves, and sheets.
+//! Their seeds are their numbers here, counted from `FIRST`.
 
 mod judged;
 mod late;
 mod lending;
+mod sheets;
 mod single;
 
 use std::sync::OnceLock;
@@ -42,6 +43,7 @@ fn all() -> &'static [Case] {
         cuts(&mut all);
         buffers(&mut all);
         single::all(&mut all);
+        sheets::all(&mut all);
         all
     })
 }

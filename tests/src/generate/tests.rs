@@ -7,6 +7,7 @@ use super::*;
 use crate::calls::expected;
 use crate::read_off::{transactions, REJECTING};
 use crate::reference::first::NO_TRANSACTION;
+use crate::reference::sheet::{Sheet, MOST_FILES};
 use crate::reference::types::{find, Class, TYPES};
 use crate::reference::{listing, numbering, structure, Answer};
 
@@ -148,6 +149,7 @@ fn a_seed_gives_the_same_file() {
         assert_eq!(one.out, other.out);
         assert_eq!(one.set, other.set);
         assert_eq!(one.records, other.records);
+        assert_eq!(one.sheet, other.sheet);
         assert_eq!(one.calls, other.calls);
     }
 }
@@ -485,7 +487,8 @@ fn first_of_every_file() {
         let only_bits_or_records =
             |call: &Call| matches!(call, Call::Bits | Call::First | Call::Record);
         let aside = case.file.is_empty() && case.calls.iter().all(only_bits_or_records);
-        assert_eq!(asked, !aside, "{}", case.kind);
+        assert_eq!(asked, case.lends_a_file(), "{}", case.kind);
+        assert_eq!(asked, !aside && case.list.is_empty(), "{}", case.kind);
         let request = case.request(Call::First, Guard::None);
         assert_eq!(request.buffers, [vec![], vec![]]);
         assert_eq!((&request.file, &request.tables), (&case.file, &case.tables));
@@ -666,6 +669,131 @@ fn late_files() {
         assert_eq!(reply.packed, expected, "{}", case.kind);
     }
     assert!(number > 700, "{number}");
+}
+
+/// What the sheets of a default run are: those that files have of their own, of
+/// every kind and for every answer, and the lists.
+#[test]
+fn sheets_of_a_run() {
+    let mut sheets: HashMap<&str, u32> = HashMap::new();
+    let mut lists = Vec::new();
+    for seed in seeds(0, 20_000) {
+        if seed < each::FIRST {
+            continue;
+        }
+        let case = case(seed).unwrap();
+        if !case.list.is_empty() {
+            lists.push(case);
+            continue;
+        }
+        if !case.calls.contains(&Call::Sheet) {
+            continue;
+        }
+        let mut count = |words, holds: bool| {
+            *sheets.entry(words).or_default() += u32::from(holds);
+        };
+        let request = case.request(Call::Sheet, Guard::None);
+        assert_eq!((&request.file, &request.tables), (&case.file, &case.tables));
+        assert_eq!(request.buffers, [case.sheet.clone(), vec![]]);
+        let (before, after) = (&case.sheet, expected(&request));
+        count("too short", before.len() < BYTES);
+        count("one byte short", before.len() == BYTES - 1);
+        count("longer", before.len() > BYTES);
+        let first = before.first_chunk().map(|bytes| u64::from_le_bytes(*bytes));
+        let full = first.is_some_and(|files| files >= MOST_FILES);
+        count("too short and full", before.len() < BYTES && full);
+        assert_eq!(before.len() < BYTES, after.refusal() == 11);
+        if before.len() < BYTES {
+            continue;
+        }
+        assert_eq!(full, after.refusal() == 12);
+        count("fresh", before[..BYTES].iter().all(|&byte| byte == 0));
+        count("full", full);
+        count("full by its one number too", first == Some(MOST_FILES));
+        let fresh = case.added_to(vec![0; BYTES], Guard::None);
+        let refused = expected(&fresh).refusal() != 0;
+        count("full, and the file refused", full && refused);
+        count("refused on any other", !full && refused);
+        if full || refused {
+            continue;
+        }
+        let [before, after] = [before, &after.buffers[0]].map(|sheet| Sheet::of_bytes(sheet));
+        count("taken", true);
+        count("the last that is taken", after.files == MOST_FILES);
+        let stopped = |before: &[u64], after: &[u64]| {
+            let mut numbers = before.iter().zip(after);
+            numbers.any(|(&before, &after)| before < after && after == u64::MAX)
+        };
+        count(
+            "a sum that reaches its largest number",
+            stopped(&before.findings, &after.findings)
+                || stopped(&before.verdicts, &after.verdicts),
+        );
+        for (before, after) in before.rights.into_iter().zip(after.rights) {
+            let stops = after.differences;
+            let changed = before.differences != stops;
+            count(
+                "differences up to the largest",
+                changed && stops == i64::MAX,
+            );
+            count(
+                "differences down to the least",
+                changed && stops == i64::MIN,
+            );
+            count("a larger shortfall", after.shortfall > before.shortfall);
+            count("a larger excess", after.excess > before.excess);
+            let missed = after.misses > before.misses;
+            count(
+                "none that is larger",
+                missed && after.excess == before.excess,
+            );
+        }
+    }
+    for (words, least) in [
+        ("too short", 200),
+        ("one byte short", 50),
+        ("longer", 200),
+        ("too short and full", 30),
+        ("fresh", 100),
+        ("full", 200),
+        ("full by its one number too", 20),
+        ("full, and the file refused", 50),
+        ("refused on any other", 300),
+        ("taken", 500),
+        ("the last that is taken", 20),
+        ("a sum that reaches its largest number", 100),
+        ("differences up to the largest", 12),
+        ("differences down to the least", 12),
+        ("a larger shortfall", 100),
+        ("a larger excess", 100),
+        ("none that is larger", 200),
+    ] {
+        let number = sheets.remove(words).unwrap_or(0);
+        println!("{words}: {number}");
+        assert!(number >= least, "{words}: {number}");
+    }
+    assert!(sheets.is_empty(), "{sheets:?}");
+    // The longest goes beyond what a sheet takes; every list has files of both
+    // kinds, and that one after it is full.
+    assert_eq!(lists.len(), 9);
+    for list in lists {
+        let files = list.list.iter().map(|&seed| case(seed).unwrap());
+        let refused: Vec<_> = files
+            .map(|file| file.added_to(vec![0; BYTES], Guard::None))
+            .map(|request| expected(&request).refusal() != 0)
+            .collect();
+        let beyond = match list.list.len() as u64 > MOST_FILES {
+            true => &refused[MOST_FILES as usize..],
+            false => &refused[..],
+        };
+        assert!(
+            beyond.contains(&true) && beyond.contains(&false),
+            "{}",
+            list.kind
+        );
+        assert!(list.list.len() > 50);
+        println!("{}: {} files", list.kind, list.list.len());
+    }
 }
 
 #[test]

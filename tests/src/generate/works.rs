@@ -140,12 +140,7 @@ fn rejecting(kind: &str, work: &Records, lent: &Lent) -> usize {
     let line = |text: &Vec<u8>| find(text).expect("a known type").class;
     let classes: Vec<_> = records.iter().map(line).collect();
     let lines: Vec<_> = records.iter().map(|text| Line { at: 0, text }).collect();
-    let [languages, societies, categories] = lent.tables;
-    let tables = Tables {
-        languages,
-        societies,
-        categories,
-    };
+    let tables = Tables::of(lent.tables);
     let sets = findings::sets(&lines, &classes, tables, lent.tolerance);
     let of_set = |set: &u64| {
         let held = (0..64).filter(|finding| set >> finding & 1 == 1);

@@ -13,40 +13,9 @@ use tests::reference::{field, findings};
 use crate::asked::{place, with_place, Asked};
 use crate::Fault;
 
-/// Faults of the other calls that this one could have as well. Their names here
-/// begin with "first: ".
-pub const SHARED: &[&str] = &[
-    "place-from-1",
-    "second-hdr",
-    "after-trl",
-    "no-trl",
-    "empty-file",
-    "empty-lines",
-    "cr-cr-lf",
-    "text-at-end",
-    "byte-31",
-    "ascii-only",
-    "lower-case",
-    "isw-known",
-    "shorter-lines",
-    "grt-group-8",
-    "nine-first",
-    "ten-first",
-    "blank-version",
-    "revision-3",
-    "limit-3, large",
-    "limit-5, large",
-    "five-before-four, large",
-    "tolerance-7",
-    "two-before-one",
-    "two-after-three",
-    "table-place-0",
-    "last-wrong-table",
-    "entries-1025",
-    "part-of-an-entry",
-    "tables-exchanged",
-    "refuses-everything",
-];
+/// Faults of the check that this one, which has a tolerance, could have besides
+/// those that every call could have.
+pub const SHARED: &[&str] = &["tolerance-7", "two-before-one"];
 
 /// A transaction: its group, its number there, its records and their findings.
 struct Work {

@@ -10,6 +10,7 @@ mod first;
 mod lending;
 mod listing;
 mod record;
+mod sheet;
 mod structure;
 
 use std::io::{self, stdin, stdout, BufReader, BufWriter, Read, Write};
@@ -33,10 +34,46 @@ fn faults() -> impl Iterator<Item = &'static Fault> {
         .chain(findings::FAULTS)
         .chain(record::FAULTS)
         .chain(first::FAULTS)
+        .chain(sheet::FAULTS)
 }
 
-/// A fault of another call that `first` has is named so.
-const IN_FIRST: &str = "first: ";
+/// Faults of the check that each call could have that checks in its own way.
+const SHARED: &[&str] = &[
+    "place-from-1",
+    "second-hdr",
+    "after-trl",
+    "no-trl",
+    "empty-file",
+    "empty-lines",
+    "cr-cr-lf",
+    "text-at-end",
+    "byte-31",
+    "ascii-only",
+    "lower-case",
+    "isw-known",
+    "shorter-lines",
+    "grt-group-8",
+    "nine-first",
+    "ten-first",
+    "blank-version",
+    "revision-3",
+    "limit-3, large",
+    "limit-5, large",
+    "five-before-four, large",
+    "two-after-three",
+    "table-place-0",
+    "last-wrong-table",
+    "entries-1025",
+    "part-of-an-entry",
+    "tables-exchanged",
+    "refuses-everything",
+];
+
+/// Such a call has them under names that begin so; and those of its own.
+const SHARING: [(&str, Call, &[&str]); 2] = [
+    ("first: ", Call::First, first::SHARED),
+    ("sheet: ", Call::Sheet, &[]),
+];
 
 fn main() -> io::Result<()> {
     let arguments: Vec<String> = std::env::args().skip(1).collect();
@@ -51,8 +88,10 @@ fn main() -> io::Result<()> {
             for (name, _) in faults() {
                 println!("{name}");
             }
-            for name in first::SHARED {
-                println!("{IN_FIRST}{name}");
+            for (prefix, _, besides) in SHARING {
+                for name in SHARED.iter().chain(besides) {
+                    println!("{prefix}{name}");
+                }
             }
             for (name, _) in listing::FAULTS {
                 println!("{name}");
@@ -62,10 +101,11 @@ fn main() -> io::Result<()> {
         ["--fault", name] => name,
         _ => usage(),
     };
-    let (in_first, wanted) = match wanted.strip_prefix(IN_FIRST) {
-        Some(shared) => (true, shared),
-        None => (false, wanted),
+    let of_call = |(prefix, call, _): &(&str, Call, _)| {
+        let shared = wanted.strip_prefix(prefix)?;
+        Some((Some(*call), shared))
     };
+    let (sharing, wanted) = SHARING.iter().find_map(of_call).unwrap_or((None, wanted));
     let fault = faults().find(|(name, _)| *name == wanted);
     let listing_fault = listing::FAULTS.iter().find(|(name, _)| *name == wanted);
     if !wanted.is_empty() && fault.is_none() && listing_fault.is_none() {
@@ -85,8 +125,7 @@ fn main() -> io::Result<()> {
     while let Some(request) = read_request(&mut input)? {
         let asked = Asked(request);
         let reply = match fault {
-            Some((_, fault)) if in_first && asked.call == Call::First => fault(&asked),
-            Some((name, fault)) if !in_first && concerns(name, asked.call) => fault(&asked),
+            Some((name, fault)) if concerns(name, sharing, asked.call) => fault(&asked),
             _ => asked.right(),
         };
         write_reply(&mut output, &reply)?;
@@ -94,14 +133,21 @@ fn main() -> io::Result<()> {
     Ok(())
 }
 
-/// The faults of `record` and of `first` are of no other call, nor others of
-/// them.
-fn concerns(name: &str, call: Call) -> bool {
+/// Whether a fault is one of this call: those of `record`, `first` and `sheet`
+/// are of no other, nor others of them but where they share one.
+fn concerns(name: &str, sharing: Option<Call>, call: Call) -> bool {
+    if sharing.is_some() {
+        return sharing == Some(call);
+    }
+    let apart = [
+        (Call::Record, record::FAULTS),
+        (Call::First, first::FAULTS),
+        (Call::Sheet, sheet::FAULTS),
+    ];
     let among = |faults: &[Fault]| faults.iter().any(|(fault, _)| *fault == name);
-    match call {
-        Call::Record => among(record::FAULTS),
-        Call::First => among(first::FAULTS),
-        _ => !among(record::FAULTS) && !among(first::FAULTS),
+    match apart.iter().find(|(_, faults)| among(faults)) {
+        Some((of, _)) => *of == call,
+        None => !apart.iter().any(|(of, _)| *of == call),
     }
 }
 

@@ -13,6 +13,16 @@ pub struct Tables<'a> {
     pub categories: &'a [u8],
 }
 
+impl<'a> Tables<'a> {
+    pub fn of([languages, societies, categories]: &'a [Vec<u8>; 3]) -> Tables<'a> {
+        Tables {
+            languages,
+            societies,
+            categories,
+        }
+    }
+}
+
 /// The tolerance.
 pub fn refusal_1(tolerance: u64) -> Result<(), Refusal> {
     if tolerance > LARGEST_TOLERANCE {

@@ -9,6 +9,7 @@ pub mod lines;
 pub mod listing;
 pub mod numbering;
 pub mod numbers;
+pub mod sheet;
 pub mod structure;
 pub mod types;
 pub mod values;
@@ -19,6 +20,7 @@ pub use first::{first_rejected, First};
 pub use lent::Tables;
 pub use listing::listing;
 pub use numbering::numbering;
+pub use sheet::sheet_add;
 pub use structure::structure;
 pub use types::record_length;
 

@@ -59,6 +59,11 @@ impl<'a> Transaction<'a> {
         self.details.iter().filter(wanted).count()
     }
 
+    /// PR, MR and SR of all its publishers and writers together.
+    pub fn totals(&self) -> [u64; 3] {
+        transaction::of_all(self)
+    }
+
     /// The sets of its records, the header first.
     fn sets(&self) -> Vec<u64> {
         let mut sets = vec![transaction::set(self) | header::set(self)];
@@ -82,28 +87,46 @@ pub fn bit(finding: u32, holds: bool) -> u64 {
 /// The findings of every record of a file that is structurally right: bit n
 /// for finding n.
 pub fn sets(lines: &[Line], classes: &[Class], tables: Tables, tolerance: u64) -> Vec<u64> {
-    let mut sets = Vec::with_capacity(lines.len());
+    of_records(
+        lines.len(),
+        &transactions(lines, classes, tables, tolerance),
+    )
+}
+
+/// Its transactions, each with the record that is its header.
+pub fn transactions<'a>(
+    lines: &[Line<'a>],
+    classes: &[Class],
+    tables: Tables<'a>,
+    tolerance: u64,
+) -> Vec<(usize, Transaction<'a>)> {
+    let mut transactions = Vec::new();
     let mut group_type: &[u8] = b"";
-    let mut at = 0;
-    while at < lines.len() {
-        if classes[at] != Class::Header {
-            if classes[at] == Class::Grh {
-                group_type = field(lines[at].text, 4, 3);
+    for (at, class) in classes.iter().enumerate() {
+        match class {
+            Class::Grh => group_type = field(lines[at].text, 4, 3),
+            Class::Header => {
+                let details = lines[at + 1..].iter().zip(&classes[at + 1..]);
+                let details = details.take_while(|(_, &class)| class == Class::Detail);
+                let details = details.map(|(line, _)| line.text).collect();
+                let header = lines[at].text;
+                let transaction = Transaction::new(tables, tolerance, group_type, header, details);
+                transactions.push((at, transaction));
             }
-            // The control records have no findings of their own.
-            sets.push(0);
-            at += 1;
-            continue;
+            _ => {}
         }
-        let header = lines[at].text;
-        let details = classes[at + 1..]
-            .iter()
-            .take_while(|&&c| c == Class::Detail);
-        let end = at + 1 + details.count();
-        let details = lines[at + 1..end].iter().map(|line| line.text).collect();
-        let transaction = Transaction::new(tables, tolerance, group_type, header, details);
-        sets.extend(transaction.sets());
-        at = end;
+    }
+    transactions
+}
+
+/// The findings of so many records by their transactions; the control records
+/// have none of their own.
+pub fn of_records(records: usize, transactions: &[(usize, Transaction)]) -> Vec<u64> {
+    let mut sets = vec![0; records];
+    for (at, transaction) in transactions {
+        for (set, own) in sets[*at..].iter_mut().zip(transaction.sets()) {
+            *set = own;
+        }
     }
     sets
 }

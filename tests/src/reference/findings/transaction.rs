@@ -40,6 +40,11 @@ fn of_writers(transaction: &Transaction) -> [u64; 3] {
     total(transaction.writers.iter().map(|writer| writer.shares))
 }
 
+/// All four kinds of record together.
+pub fn of_all(transaction: &Transaction) -> [u64; 3] {
+    total([of_publishers(transaction), of_writers(transaction)].into_iter())
+}
+
 /// T22, GR: the group is not for headers of this type.
 fn finding_0(transaction: &Transaction) -> bool {
     transaction.header[..3] != *transaction.group_type
@@ -69,9 +74,8 @@ pub fn finding_2_of([pr, mr, sr]: [u64; 3], t: u64) -> bool {
 /// right.
 fn finding_3(transaction: &Transaction) -> bool {
     let t = transaction.tolerance;
-    let all = total([of_publishers(transaction), of_writers(transaction)].into_iter());
     let right = |sum: &u64| *sum == 0 || (FULL - t..=FULL + t).contains(sum);
-    !all.iter().all(right)
+    !of_all(transaction).iter().all(right)
 }
 
 /// T12: nobody wrote it.

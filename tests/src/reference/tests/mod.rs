@@ -5,6 +5,7 @@ mod first;
 mod lent;
 mod listing;
 mod order;
+mod sheet;
 mod sides;
 mod structure;
 mod verdicts;
