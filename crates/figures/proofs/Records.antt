@@ -1,4 +1,4 @@
--- Counts of records by finding and by verdict, with one record more. Assumes nothing.
+-- Counts of records by finding and by level, with one record more. Assumes nothing.
 use Prim.Native.Nat.{ℕ, zero, suc, _+_, _-_, _*_, _/_, _%_, _^_, _≤_, _<_}
 use native.Mathlib.Omega.{arith}
 use mathlib.Core.Path.{_≡_, refl, sym, ap, _∙_, subst}
@@ -10,12 +10,13 @@ use lib.Dec.{eqb, eqb·zero-suc, eqb·suc-zero, eqb·suc-suc}
 use lib.ListN.{length, replicate, set, getD, length-set}
 use Rattle.format.specs.Bytes.{All}
 use Rattle.format.specs.Structure.{mostRecords}
-use Rattle.rules.specs.Findings.{setOf, places}
-use Rattle.rules.specs.Sheet.{howMany, each, carries, byFinding, byVerdict}
+use Rattle.rules.specs.Findings.{setOf, places, worst}
+use Rattle.rules.specs.Sheet.{howMany, each, carries, byFinding}
 use Rattle.rules.proofs.Bits.{places-set}
 use Rattle.rules.proofs.Lists.{count-last}
 use Rattle.rules.proofs.Counts.{howMany-most, each-same}
-use Rattle.figures.specs.Counted.{Counts, Few, plusBits}
+use Rattle.rules.proofs.Verdicts.{no-finding}
+use Rattle.figures.specs.Counted.{byLevel, Counts, Few, plusBits}
 
 -- none is more than a file may have
 pub few-at : (ns : List ℕ) → All (λ n. n ≤ mostRecords) ns → (k : ℕ) → getD ns k 0 ≤ mostRecords
@@ -174,7 +175,7 @@ module _ {fs₀ fs : List ℕ} {bits left : ℕ} (o : Owing fs₀ bits fs left) 
       let e : left ≡ 0 = omega arith in
       sym (plus-none fs 64) ∙ ap (plusBits fs) (sym (none-set 64) ∙ ap (places 64) (sym e)) ∙ o .owed
 
--- ---- by verdict
+-- ---- by level
 
 -- one more at a place
 set-each : (n : ℕ) (f : ℕ → ℕ) (v : ℕ) → v < n → set (each n f) v (getD (each n f) v 0 + 1) ≡ each n (λ k. f k + cond (eqb k v) 1 0)
@@ -189,9 +190,20 @@ set-each (suc n) f (suc v) h =
     same : {a b : ℕ} {ks ns : List ℕ} → a ≡ b → ks ≡ ns → a ∷ ks ≡ b ∷ ns
     same e es = rw (e, es)
 
-pub verdict-more : (vs : List ℕ) (v : ℕ) → v ≤ 4 → set (byVerdict vs) v (getD (byVerdict vs) v 0 + 1) ≡ byVerdict (vs ++ v ∷ [])
-unfolding byVerdict
-verdict-more vs v h = set-each 5 (λ n. howMany (eqb n) vs) v (omega arith) ∙ each-same 5 _ _ (λ n. sym (count-last (eqb n) vs v))
+-- a record with a verdict above 0, and one with 0
+module _ (vs : List ℕ) where
+  level-more : (l : ℕ) → l < 4 → set (byLevel vs) l (getD (byLevel vs) l 0 + 1) ≡ byLevel (vs ++ suc l ∷ [])
+  unfolding byLevel
+  level-more l h =
+      set-each 4 (λ n. howMany (eqb (suc n)) vs) l h
+      ∙ each-same 4 (λ n. howMany (eqb (suc n)) vs + cond (eqb n l) 1 0) (λ n. howMany (eqb (suc n)) (vs ++ suc l ∷ []))
+      (λ n. sym (count-last (eqb (suc n)) vs (suc l) ∙ ap (λ b. howMany (eqb (suc n)) vs + cond b 1 0) (eqb·suc-suc n l)))
+
+  level-same : byLevel (vs ++ 0 ∷ []) ≡ byLevel vs
+  unfolding byLevel
+  level-same =
+      each-same 4 (λ n. howMany (eqb (suc n)) (vs ++ 0 ∷ [])) (λ n. howMany (eqb (suc n)) vs)
+      (λ n. count-last (eqb (suc n)) vs 0 ∙ rw (eqb·suc-zero n) (omega arith))
 
 -- ---- both
 
@@ -203,27 +215,49 @@ few-each : (n : ℕ) (f : ℕ → ℕ) → ((k : ℕ) → f k ≤ mostRecords) �
 few-each zero f h = tt
 few-each (suc n) f h = (h 0, few-each n (λ k. f (suc k)) (λ k. h (suc k)))
 
-module _ {sets : List (List Bool)} {verdicts fs vs : List ℕ} (counts : Counts sets verdicts fs vs) where
-  pub one-more : {fs' vs' : List ℕ} (s : List Bool) (v : ℕ) → length s ≤ 64 → v ≤ 4 → fs' ≡ plusBits fs (places 64 (setOf s))
-      → vs' ≡ set vs v (getD vs v 0 + 1) → Counts (sets ++ s ∷ []) (verdicts ++ v ∷ []) fs' vs'
-  one-more s v short low f g = record {
-    by-finding = f ∙ ap (λ l. plusBits l (places 64 (setOf s))) (counts .by-finding) ∙ finding-more sets s short;
-    by-verdict = g ∙ ap (λ l. set l v (getD l v 0 + 1)) (counts .by-verdict) ∙ verdict-more verdicts v low;
+fewer : {A : Type 0} (p : A → Bool) (xs : List A) → length xs ≤ mostRecords → howMany p xs ≤ mostRecords
+fewer p xs h = omega (arith, howMany-most p xs)
+
+pub few-levels : (vs : List ℕ) → length vs ≤ mostRecords → All (λ n. n ≤ mostRecords) (byLevel vs)
+unfolding byLevel
+few-levels vs h = few-each 4 (λ n. howMany (eqb (suc n)) vs) (λ n. fewer (eqb (suc n)) vs h)
+
+module _ {sets : List (List Bool)} {verdicts fs ls : List ℕ} (counts : Counts sets verdicts fs ls) where
+  -- with one record more
+  pub one-more : {fs' ls' : List ℕ} (s : List Bool) (v : ℕ) → length s ≤ 64 → 0 < v → v ≤ 4 → fs' ≡ plusBits fs (places 64 (setOf s))
+      → ls' ≡ set ls (v - 1) (getD ls (v - 1) 0 + 1) → Counts (sets ++ s ∷ []) (verdicts ++ v ∷ []) fs' ls'
+  one-more s v short some low f g =
+      let e : suc (v - 1) ≡ v = omega arith in
+      record {
+        by-finding = f ∙ ap (λ l. plusBits l (places 64 (setOf s))) (counts .by-finding) ∙ finding-more sets s short;
+        by-level =
+            g
+            ∙ ap (λ l. set l (v - 1) (getD l (v - 1) 0 + 1)) (counts .by-level)
+            ∙ level-more verdicts (v - 1) (omega (arith, some, low))
+            ∙ ap (λ n. byLevel (verdicts ++ n ∷ [])) e;
+      }
+
+  -- .. that has no finding, and so the verdict 0
+  pub none-more : (s : List Bool) → length s ≤ 47 → worst s ≡ 0 → Counts (sets ++ s ∷ []) (verdicts ++ 0 ∷ []) fs ls
+  unfolding byFinding worst
+  none-more s short e = record {
+    by-finding =
+        counts .by-finding
+        ∙ each-same 64 (λ n. howMany (carries n) sets) (λ n. howMany (carries n) (sets ++ s ∷ []))
+        (λ n. sym (count-last (carries n) sets s ∙ rw (no-finding 0 s (omega (arith, short)) e n) (omega arith)));
+    by-level = counts .by-level ∙ sym (level-same verdicts);
   }
 
-  pub length-counts : (length fs ≡ 64) × (length vs ≡ 5)
-  unfolding byFinding byVerdict
-  length-counts = (ap length (counts .by-finding) ∙ length-each 64 (λ n. howMany (carries n) sets), ap length (counts .by-verdict))
+  pub length-counts : (length fs ≡ 64) × (length ls ≡ 4)
+  unfolding byFinding byLevel
+  length-counts = (ap length (counts .by-finding) ∙ length-each 64 (λ n. howMany (carries n) sets), ap length (counts .by-level))
 
   -- counts of no more records than a file has
-  pub few-counts : length sets ≤ mostRecords → length verdicts ≤ mostRecords → Few fs vs
-  unfolding byFinding byVerdict
+  pub few-counts : length sets ≤ mostRecords → length verdicts ≤ mostRecords → Few fs ls
+  unfolding byFinding
   few-counts f v = record {
     findings = length-counts .0;
     few-findings = subst (All (λ n. n ≤ mostRecords)) (sym (counts .by-finding)) (few-each 64 (λ n. howMany (carries n) sets) (λ n. fewer (carries n) sets f));
-    verdicts = length-counts .1;
-    few-verdicts = subst (All (λ n. n ≤ mostRecords)) (sym (counts .by-verdict)) (few-each 5 (λ n. howMany (eqb n) verdicts) (λ n. fewer (eqb n) verdicts v));
+    levels = length-counts .1;
+    few-levels = subst (All (λ n. n ≤ mostRecords)) (sym (counts .by-level)) (few-levels verdicts v);
   }
-    where
-      fewer : {A : Type 0} (p : A → Bool) (xs : List A) → length xs ≤ mostRecords → howMany p xs ≤ mostRecords
-      fewer p xs h = omega (arith, howMany-most p xs)

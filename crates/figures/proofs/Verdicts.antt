@@ -1,39 +1,27 @@
--- Counts by verdict, of two parts together and of verdicts that are raised. Assumes nothing.
-use Prim.Native.Nat.{ℕ, suc, _+_, _≤_, _<_}
+-- Counts by level where verdicts are raised, and by verdict at the end. Assumes nothing.
+use Prim.Native.Nat.{ℕ, zero, suc, _+_, _-_, _≤_, _<_}
+use native.Mathlib.Nat.{not-suc-le-zero, le-of-suc-le-suc}
 use native.Mathlib.Omega.{arith}
-use mathlib.Core.Path.{_≡_, refl, sym, _∙_}
+use mathlib.Core.Path.{_≡_, refl, sym, ap, _∙_, subst}
 use mathlib.Core.Bool.{Bool, true, false, cond}
 use mathlib.Core.List.{List, [], _∷_, _++_}
 use lib.Dec.{eqb, leb}
-use lib.ListN.{length, getD}
+use lib.ListN.{length, set, getD}
 use borrow.Author.Tests.{leb-true, leb-false, le-leb, eqb-true, eq-eqb, ne-eqb}
+use Rattle.format.specs.Bytes.{All}
+use Rattle.format.specs.Structure.{mostRecords}
 use Rattle.format.proofs.Tests.{by-cases}
 use Rattle.rules.specs.Records.{only}
 use Rattle.rules.specs.Findings.{larger}
 use Rattle.rules.specs.Verdicts.{raised}
-use Rattle.rules.specs.Sheet.{howMany, byVerdict}
-use Rattle.rules.proofs.Counts.{howMany-append, larger-max}
+use Rattle.rules.specs.Sheet.{howMany, each, byVerdict}
+use Rattle.rules.proofs.Counts.{howMany-append, howMany-most, larger-max}
+use Rattle.rules.proofs.Verdicts.{AtMost4, larger-zero, five}
+use Rattle.figures.specs.Counted.{byLevel, Grown}
+use Rattle.figures.proofs.Records.{few-levels}
 
 abbrev at : List ℕ → ℕ → ℕ
 at ns k = getD ns k 0
-
--- ---- two parts together
-
-pub verdicts-together : {a b : List ℕ} (us vs : List ℕ) → a ≡ byVerdict us → b ≡ byVerdict vs
-    → (at a 0 + at b 0) ∷ (at a 1 + at b 1) ∷ (at a 2 + at b 2) ∷ (at a 3 + at b 3) ∷ (at a 4 + at b 4) ∷ [] ≡ byVerdict (us ++ vs)
-unfolding byVerdict
-verdicts-together us vs e g =
-    rw (
-      e,
-      g,
-      howMany-append (eqb 0) us vs,
-      howMany-append (eqb 1) us vs,
-      howMany-append (eqb 2) us vs,
-      howMany-append (eqb 3) us vs,
-      howMany-append (eqb 4) us vs,
-    )
-
--- ---- two records around them
 
 -- a count with one element before the others
 howMany-first : (p : ℕ → Bool) (v : ℕ) (vs : List ℕ) → howMany p (v ∷ vs) ≡ cond (p v) 1 0 + howMany p vs
@@ -42,25 +30,6 @@ howMany-first p v vs = first (p v)
     first : (b : Bool) → length (cond b (v ∷ only p vs) (only p vs)) ≡ cond b 1 0 + length (only p vs)
     first true = omega arith
     first false = omega arith
-
-pub verdicts-around : {v : List ℕ} (vs : List ℕ) → v ≡ byVerdict vs → (at v 0 + 2) ∷ at v 1 ∷ at v 2 ∷ at v 3 ∷ at v 4 ∷ [] ≡ byVerdict (0 ∷ vs ++ 0 ∷ [])
-unfolding byVerdict
-verdicts-around vs e =
-    rw (
-      e,
-      howMany-append (eqb 0) vs (0 ∷ []),
-      howMany-append (eqb 1) vs (0 ∷ []),
-      howMany-append (eqb 2) vs (0 ∷ []),
-      howMany-append (eqb 3) vs (0 ∷ []),
-      howMany-append (eqb 4) vs (0 ∷ []),
-    )
-    (λ i. count i ∷ none (eqb 1) i ∷ none (eqb 2) i ∷ none (eqb 3) i ∷ none (eqb 4) i ∷ [])
-  where
-    count : howMany (eqb 0) vs + 2 ≡ suc (howMany (eqb 0) vs + 1)
-    count = omega arith
-
-    none : (p : ℕ → Bool) → howMany p vs ≡ howMany p vs + 0
-    none p = omega arith
 
 -- ---- verdicts raised
 
@@ -130,30 +99,121 @@ up-to-next k (v ∷ vs) =
 up-to-3 : (vs : List ℕ) → howMany (λ v. leb v 3) vs ≡ howMany (eqb 0) vs + howMany (eqb 1) vs + howMany (eqb 2) vs + howMany (eqb 3) vs
 up-to-3 vs = omega (arith, up-to-0 vs, up-to-next 0 vs, up-to-next 1 vs, up-to-next 2 vs)
 
-pub raised-3 : {v : List ℕ} (vs : List ℕ) → v ≡ byVerdict vs → 0 ∷ 0 ∷ 0 ∷ (at v 0 + at v 1 + at v 2 + at v 3) ∷ at v 4 ∷ [] ≡ byVerdict (raised 3 vs)
+-- none has another
+all-five : (vs : List ℕ) → All AtMost4 vs
+    → howMany (eqb 0) vs + howMany (eqb 1) vs + howMany (eqb 2) vs + howMany (eqb 3) vs + howMany (eqb 4) vs ≡ length vs
 unfolding byVerdict
-raised-3 vs e =
-    rw (
-      e,
-      below 3 vs 0 (omega arith),
-      below 3 vs 1 (omega arith),
-      below 3 vs 2 (omega arith),
-      to-least 3 vs,
-      up-to-3 vs,
-      above 3 vs 4 (omega arith),
-    )
+all-five vs low = omega (arith, five vs low)
 
-pub raised-4 : {v : List ℕ} (vs : List ℕ) → v ≡ byVerdict vs
-    → 0 ∷ 0 ∷ 0 ∷ 0 ∷ (at v 0 + at v 1 + at v 2 + at v 3 + at v 4) ∷ [] ≡ byVerdict (raised 4 vs)
-unfolding byVerdict
-raised-4 vs e =
-    rw (
-      e,
-      below 4 vs 0 (omega arith),
-      below 4 vs 1 (omega arith),
-      below 4 vs 2 (omega arith),
-      below 4 vs 3 (omega arith),
-      to-least 4 vs,
-      up-to-next 3 vs,
-      up-to-3 vs,
-    )
+-- ---- a transaction, a group and a file, once their records are counted
+
+at-each : (n : ℕ) (f : ℕ → ℕ) (k : ℕ) → k < n → at (each n f) k ≡ f k
+at-each zero f k h = absurd (not-suc-le-zero h)
+at-each (suc n) f zero h = refl
+at-each (suc n) f (suc k) h = at-each n (λ m. f (suc m)) k (le-of-suc-le-suc h)
+
+four-same : {a b c d a' b' c' d' : ℕ} → a ≡ a' → b ≡ b' → c ≡ c' → d ≡ d' → a ∷ b ∷ c ∷ d ∷ [] ≡ a' ∷ b' ∷ c' ∷ d' ∷ []
+four-same a b c d = rw (a, b, c, d)
+
+-- four counts, one by one
+pub one-by-one : (ls : List ℕ) → length ls ≡ 4 → at ls 0 ∷ at ls 1 ∷ at ls 2 ∷ at ls 3 ∷ [] ≡ ls
+one-by-one [] e = absurd (omega (arith, e))
+one-by-one (a ∷ []) e = absurd (omega (arith, e))
+one-by-one (a ∷ b ∷ []) e = absurd (omega (arith, e))
+one-by-one (a ∷ b ∷ c ∷ []) e = absurd (omega (arith, e))
+one-by-one (a ∷ b ∷ c ∷ d ∷ []) e = refl
+one-by-one (a ∷ b ∷ c ∷ d ∷ e' ∷ ls) e = absurd (omega (arith, e))
+
+-- nothing is raised to 0
+raised-none : (vs : List ℕ) → raised 0 vs ≡ vs
+unfolding raised
+raised-none [] = refl
+raised-none (v ∷ vs) = rw (larger-zero v, raised-none vs)
+
+module _ {us vs : List ℕ} {n : ℕ} {before ls : List ℕ} (grown : Grown us vs n before ls) where
+  -- as many at each level as there were and as there are more
+  were-at : (l : ℕ) → l < 4 → at before l ≡ howMany (eqb (suc l)) us
+  unfolding byLevel
+  were-at l h = ap (λ ns. at ns l) (grown .were) ∙ at-each 4 (λ k. howMany (eqb (suc k)) us) l h
+
+  are-at : (l : ℕ) → l < 4 → at ls l ≡ howMany (eqb (suc l)) us + howMany (eqb (suc l)) vs
+  unfolding byLevel
+  are-at l h =
+      ap (λ ns. at ns l) (grown .are)
+      ∙ at-each 4 (λ k. howMany (eqb (suc k)) (us ++ vs)) l h
+      ∙ howMany-append (eqb (suc l)) us vs
+
+  module _ (few : length us + length vs ≤ mostRecords) where
+    pub few-before : All (λ m. m ≤ mostRecords) before
+    few-before = subst (All (λ m. m ≤ mostRecords)) (sym (grown .were)) (few-levels us (omega (arith, few)))
+
+    pub few-records : n ≤ mostRecords
+    few-records = omega (arith, few, grown .all)
+
+  pub four : length ls ≡ 4
+  unfolding byLevel
+  four = ap length (grown .are)
+
+  -- no more can have come to GR than there are records
+  pub no-more : at ls 3 ≤ at before 3 + n
+  no-more = omega (arith, are-at 3 (omega arith), were-at 3 (omega arith), howMany-most (eqb 4) vs, grown .all)
+
+  pub settled-3 : set (set (set ls 0 (at before 0)) 1 (at before 1)) 2 (at before 2 + (at before 3 + n - at ls 3)) ≡ byLevel (us ++ raised 3 vs)
+  unfolding byLevel
+  settled-3 = ap (λ l. set (set (set l 0 (at before 0)) 1 (at before 1)) 2 (at before 2 + (at before 3 + n - at ls 3))) (grown .are) ∙ four-same
+      (omega (arith, were-at 0 (omega arith), howMany-append (eqb 1) us (raised 3 vs), below 3 vs 1 (omega arith)))
+      (omega (arith, were-at 1 (omega arith), howMany-append (eqb 2) us (raised 3 vs), below 3 vs 2 (omega arith)))
+      (omega (
+        arith,
+        were-at 2 (omega arith),
+        were-at 3 (omega arith),
+        are-at 3 (omega arith),
+        grown .all,
+        howMany-append (eqb 3) us (raised 3 vs),
+        to-least 3 vs,
+        up-to-3 vs,
+        all-five vs (grown .low),
+      ))
+      (omega (arith, howMany-append (eqb 4) us vs, howMany-append (eqb 4) us (raised 3 vs), above 3 vs 4 (omega arith)))
+
+  pub settled-4 : set (set (set (set ls 0 (at before 0)) 1 (at before 1)) 2 (at before 2)) 3 (at before 3 + n) ≡ byLevel (us ++ raised 4 vs)
+  unfolding byLevel
+  settled-4 = ap (λ l. set (set (set (set l 0 (at before 0)) 1 (at before 1)) 2 (at before 2)) 3 (at before 3 + n)) (grown .are) ∙ four-same
+      (omega (arith, were-at 0 (omega arith), howMany-append (eqb 1) us (raised 4 vs), below 4 vs 1 (omega arith)))
+      (omega (arith, were-at 1 (omega arith), howMany-append (eqb 2) us (raised 4 vs), below 4 vs 2 (omega arith)))
+      (omega (arith, were-at 2 (omega arith), howMany-append (eqb 3) us (raised 4 vs), below 4 vs 3 (omega arith)))
+      (omega (
+        arith,
+        were-at 3 (omega arith),
+        grown .all,
+        howMany-append (eqb 4) us (raised 4 vs),
+        to-least 4 vs,
+        up-to-next 3 vs,
+        up-to-3 vs,
+        all-five vs (grown .low),
+      ))
+
+  -- where none is rejected
+  pub settled-none : ls ≡ byLevel (us ++ raised 0 vs)
+  settled-none = grown .are ∙ ap (λ ws. byLevel (us ++ ws)) (sym (raised-none vs))
+
+-- with none before them
+none-at : (l : ℕ) → l < 4 → at (byLevel []) l ≡ 0
+unfolding byLevel
+none-at l h = at-each 4 (λ k. 0) l h
+
+module _ {us vs : List ℕ} {n : ℕ} {ls : List ℕ} (grown : Grown us vs n (byLevel []) ls) where
+  alone : (l : ℕ) → l < 4 → at ls l ≡ howMany (eqb (suc l)) vs
+  alone l h = omega (arith, are-at grown l h, were-at grown l h, none-at l h)
+
+  pub come-to : at ls 0 + at ls 1 + at ls 2 + at ls 3 ≤ n
+  come-to =
+      omega (arith, alone 0 (omega arith), alone 1 (omega arith), alone 2 (omega arith), alone 3 (omega arith), grown .all, all-five vs (grown .low))
+
+  pub whole : (n - (at ls 0 + at ls 1 + at ls 2 + at ls 3)) ∷ at ls 0 ∷ at ls 1 ∷ at ls 2 ∷ at ls 3 ∷ [] ≡ byVerdict vs
+  unfolding byVerdict
+  whole =
+      rw (alone 0 (omega arith), alone 1 (omega arith), alone 2 (omega arith), alone 3 (omega arith), grown .all)
+      (ap (λ m. m ∷ howMany (eqb 1) vs ∷ howMany (eqb 2) vs ∷ howMany (eqb 3) vs ∷ howMany (eqb 4) vs ∷ [])
+      (let e : length vs - (howMany (eqb 1) vs + howMany (eqb 2) vs + howMany (eqb 3) vs + howMany (eqb 4) vs) ≡ howMany (eqb 0) vs = omega (arith, all-five vs (grown .low)) in
+      e))

@@ -1,8 +1,9 @@
 -- Internal: the code's figures as those of lists of transactions and of records, and how large they may be.
 use mathlib.Core.Path.{_≡_}
 use mathlib.Core.Bool.{Bool, cond}
-use mathlib.Core.List.{List, [], _∷_, map}
-use Prim.Native.Nat.{ℕ, _+_, _-_, _*_, _≤_}
+use mathlib.Core.List.{List, [], _∷_, _++_, map}
+use Prim.Native.Nat.{ℕ, suc, _+_, _-_, _*_, _≤_}
+use lib.Dec.{eqb}
 use lib.ListN.{length}
 use lib.IntN.{subℕ}
 use Rattle.format.specs.Bytes.{All}
@@ -13,7 +14,7 @@ use Rattle.rules.specs.Records.{only}
 use Rattle.rules.specs.Totals.{PR, MR, SR, wholeTotal}
 use Rattle.rules.specs.Verdicts.{fileFindings, fileVerdicts}
 use Rattle.rules.specs.Outcome.{content}
-use Rattle.rules.specs.Sheet.{Taken, sheetTolerance, transactionsOf, largest, misses, totalsOf, byFinding, byVerdict}
+use Rattle.rules.specs.Sheet.{Taken, sheetTolerance, transactionsOf, howMany, each, largest, misses, totalsOf, byFinding, byVerdict}
 use Rattle.rules.specs.Sheet.{Missed as SheetMissed}
 use Rattle.rules.specs.Claims.{sum}
 use Rattle.totals.specs.declared.Rights.{Rights}
@@ -63,17 +64,32 @@ WithinAll k m = Within k (m .pr) × Within k (m .mr) × Within k (m .sr)
 
 -- ---- records
 
--- the counts fs by finding and vs by verdict are those of some records, given their sets and their verdicts
-pub record Counts (sets : List (List Bool)) (verdicts fs vs : List ℕ) : Type 0 where
+-- how many have each of the verdicts 1 to 4; those with 0 are all others
+unfoldable pub byLevel : List ℕ → List ℕ
+byLevel verdicts = each 4 (λ n. howMany (eqb (suc n)) verdicts)
+
+-- the counts fs by finding and ls by level are those of some records, given their sets and their verdicts
+pub record Counts (sets : List (List Bool)) (verdicts fs ls : List ℕ) : Type 0 where
   pub by-finding : fs ≡ byFinding sets
-  pub by-verdict : vs ≡ byVerdict verdicts
+  pub by-level : ls ≡ byLevel verdicts
 
 -- they are of no more records than a file may have
-pub record Few (fs vs : List ℕ) : Type 0 where
+pub record Few (fs ls : List ℕ) : Type 0 where
   pub findings : length fs ≡ 64
   pub few-findings : All (λ n. n ≤ mostRecords) fs
-  pub verdicts : length vs ≡ 5
-  pub few-verdicts : All (λ n. n ≤ mostRecords) vs
+  pub levels : length ls ≡ 4
+  pub few-levels : All (λ n. n ≤ mostRecords) ls
+
+-- the counts by level were those of the verdicts us; now so many records more are counted, with the verdicts vs
+pub record Grown (us vs : List ℕ) (records : ℕ) (before ls : List ℕ) : Type 0 where
+  pub were : before ≡ byLevel us
+  pub are : ls ≡ byLevel (us ++ vs)
+  pub all : records ≡ length vs
+  pub low : All (λ v. v ≤ 4) vs
+
+-- .. and all of them are no more than a file may have
+abbrev pub Grows : (records : ℕ) (before ls : List ℕ) → Type 0
+Grows records before ls = (us : List ℕ) × (vs : List ℕ) × Grown us vs records before ls × (length us + length vs ≤ mostRecords)
 
 -- one more for each place that is set
 unfoldable pub plusBits : List ℕ → List Bool → List ℕ

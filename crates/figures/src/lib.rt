@@ -3,17 +3,18 @@
 use totals::Rights;
 use values::Share;
 ghost use mathlib.Core.Path.{_≡_};
-ghost use mathlib.Core.Bool.{Bool};
+ghost use mathlib.Core.Bool.{Bool, cond};
 ghost use mathlib.Core.List.{List, [], _∷_, _++_};
 ghost use Prim.Native.Nat.{ℕ, _+_, _-_, _*_, _≤_};
 ghost use lib.ListN.{length};
 ghost use Rattle.format.specs.Bytes.{All};
 ghost use Rattle.format.specs.Doc.{Transaction};
 ghost use Rattle.format.specs.Structure.{mostRecords};
-ghost use Rattle.rules.specs.Findings.{TR, GR, setOf, places, verdict, larger as Findings·larger};
+ghost use Rattle.rules.specs.Findings.{TR, GR, setOf, places, verdict, worst, larger as Findings·larger};
 ghost use Rattle.rules.specs.Sheet.{byVerdict};
 ghost use Rattle.rules.specs.Verdicts.{raised};
-ghost use Rattle.figures.specs.Counted.{missesOf, missingOf, wholeOf, UpTo, Within, WithinAll, Counts, Few, plusBits};
+ghost use Rattle.findings.specs.Many.{many};
+ghost use Rattle.figures.specs.Counted.{missesOf, missingOf, wholeOf, UpTo, Within, WithinAll, byLevel, Counts, Few, Grown, Grows, plusBits};
 
 // ---- what transactions miss of the full share
 
@@ -123,56 +124,68 @@ fn count_set(set: u64, findings: &mut [u64])
     }
 }
 
-// One record more, with its findings and its verdict.
-pub fn count(set: u64, verdict: u8, findings: &mut [u64], verdicts: &mut [u64])
-    requires { ⌜ Few (now findings) (now verdicts) × (verdict ≤ 4) ⌝ }
-    ensures { λ _. ⌜ ((sets : List (List Bool)) (vs : List ℕ) (s : List Bool) → set ≡ setOf s → length s ≤ 64
-        → Counts sets vs (now (findings .entry)) (now (verdicts .entry))
-        → Counts (sets ++ s ∷ []) (vs ++ verdict ∷ []) (now (findings .exit)) (now (verdicts .exit))) ⌝ }
+// One record more, with its findings and its verdict. Most have none, and nothing is done for those: how many have verdict 0 follows at the
+// end of the file from how many have another.
+pub fn count(set: u64, verdict: u8, findings: &mut [u64], levels: &mut [u64])
+    requires { ⌜ Few (now findings) (now levels) × (verdict ≤ 4) ⌝ }
+    ensures { λ _. ⌜ ((sets : List (List Bool)) (vs : List ℕ) (s : List Bool) → set ≡ setOf s → verdict ≡ worst s → length s ≤ many
+        → Counts sets vs (now (findings .entry)) (now (levels .entry))
+        → Counts (sets ++ s ∷ []) (vs ++ verdict ∷ []) (now (findings .exit)) (now (levels .exit))) ⌝ }
 {
-    count_set(set, findings);
-    let v = verdict as usize;
-    verdicts[v] = verdicts[v] + 1;
+    if 0 < verdict {
+        count_set(set, findings);
+        let l = verdict as usize - 1;
+        levels[l] = levels[l] + 1;
+    }
 }
 
-// ---- verdicts
+// ---- levels
 
-// The counts of two parts together.
-pub fn together(a: [u64; 5], b: [u64; 5]) -> [u64; 5]
-    requires { ⌜ All (λ n. n ≤ mostRecords) a × All (λ n. n ≤ mostRecords) b ⌝ }
-    ensures { λ r. ⌜ ((us vs : List ℕ) → a ≡ byVerdict us → b ≡ byVerdict vs → r ≡ byVerdict (us ++ vs)) ⌝ }
+// The counts as they are, kept while more is counted.
+pub fn copied(levels: &[u64]) -> [u64; 4]
+    requires { ⌜ length (now levels) ≡ 4 ⌝ }
+    ensures { λ r. ⌜ r ≡ now (levels .entry) ⌝ }
 {
-    [
-        a[0] + b[0],
-        a[1] + b[1],
-        a[2] + b[2],
-        a[3] + b[3],
-        a[4] + b[4],
-    ]
+    [levels[0], levels[1], levels[2], levels[3]]
 }
 
-// With the two records around them, which have no finding: GRH and GRT of a group, HDR and TRL of a file.
-pub fn with_controls(v: [u64; 5]) -> [u64; 5]
-    requires { ⌜ All (λ n. n ≤ mostRecords) v ⌝ }
-    ensures { λ r. ⌜ ((vs : List ℕ) → v ≡ byVerdict vs → r ≡ byVerdict (0 ∷ vs ++ 0 ∷ [])) ⌝ }
+// After a transaction of so many records, each counted with its own verdict: where it is rejected, none of them stays below TR. `before` are
+// the counts without it.
+pub fn settle_transaction(rejected: bool, records: usize, before: [u64; 4], levels: &mut [u64])
+    requires { ⌜ Grows records before (now levels) ⌝ }
+    ensures { λ _. ⌜ ((us vs : List ℕ) → Grown us vs records before (now (levels .entry))
+        → now (levels .exit) ≡ byLevel (us ++ raised (cond rejected (verdict TR) 0) vs)) ⌝ }
 {
-    [v[0] + 2, v[1], v[2], v[3], v[4]]
+    if rejected {
+        // All but those at GR.
+        let others = before[3] + records as u64 - levels[3];
+        levels[0] = before[0];
+        levels[1] = before[1];
+        levels[2] = before[2] + others;
+    }
 }
 
-// Those of a transaction that is rejected: none stays below 3.
-pub fn in_rejected_transaction(v: [u64; 5]) -> [u64; 5]
-    requires { ⌜ All (λ n. n ≤ mostRecords) v ⌝ }
-    ensures { λ r. ⌜ ((vs : List ℕ) → v ≡ byVerdict vs → r ≡ byVerdict (raised (verdict TR) vs)) ⌝ }
+// After a group: where it is rejected, all its records come to GR.
+pub fn settle_group(rejected: bool, records: usize, before: [u64; 4], levels: &mut [u64])
+    requires { ⌜ Grows records before (now levels) ⌝ }
+    ensures { λ _. ⌜ ((us vs : List ℕ) → Grown us vs records before (now (levels .entry))
+        → now (levels .exit) ≡ byLevel (us ++ raised (cond rejected (verdict GR) 0) vs)) ⌝ }
 {
-    [0, 0, 0, v[0] + v[1] + v[2] + v[3], v[4]]
+    if rejected {
+        levels[0] = before[0];
+        levels[1] = before[1];
+        levels[2] = before[2];
+        levels[3] = before[3] + records as u64;
+    }
 }
 
-// Those of a group that is rejected: all are 4.
-pub fn in_rejected_group(v: [u64; 5]) -> [u64; 5]
-    requires { ⌜ All (λ n. n ≤ mostRecords) v ⌝ }
-    ensures { λ r. ⌜ ((vs : List ℕ) → v ≡ byVerdict vs → r ≡ byVerdict (raised (verdict GR) vs)) ⌝ }
+// At the end of a file: how many of its records have each of the verdicts 0 to 4.
+pub fn by_verdict(records: usize, levels: [u64; 4]) -> [u64; 5]
+    requires { ⌜ Grows records (byLevel []) levels ⌝ }
+    ensures { λ r. ⌜ ((vs : List ℕ) → Grown [] vs records (byLevel []) levels → r ≡ byVerdict vs) ⌝ }
 {
-    [0, 0, 0, 0, v[0] + v[1] + v[2] + v[3] + v[4]]
+    let accepted = records as u64 - (levels[0] + levels[1] + levels[2] + levels[3]);
+    [accepted, levels[0], levels[1], levels[2], levels[3]]
 }
 
 // ---- a whole file

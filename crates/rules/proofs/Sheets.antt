@@ -1,5 +1,5 @@
 -- What is claimed of the catalogue sheet (specs/Claims) holds. Assumes nothing.
-use Prim.Native.Nat.{ℕ, zero, suc, _+_, _^_, _≤_, _<_}
+use Prim.Native.Nat.{ℕ, suc, _+_, _^_, _≤_, _<_}
 use native.Mathlib.Omega.{arith}
 use mathlib.Core.Path.{_≡_, refl, sym, ap, _∙_, subst}
 use mathlib.Core.Bool.{false≢true, not}
@@ -24,7 +24,7 @@ use Rattle.rules.specs.Claims.{figuresOf, unsigned, signed, sum, records
 use Rattle.rules.proofs.Lists.{only-kept, only-left}
 use Rattle.rules.proofs.Joined.{joined-all}
 use Rattle.rules.proofs.Each.{verdicts-each}
-use Rattle.rules.proofs.Verdicts.{AtMost4, verdicts-most}
+use Rattle.rules.proofs.Verdicts.{AtMost4, verdicts-most, five}
 use Rattle.rules.proofs.Outcomes.{admitted, admission-by, room-else}
 use Rattle.rules.proofs.Together.{same-missed, same-sheet, sheet-set, sums, bothMissed, both, sheet-append, reordered}
 use Rattle.rules.proofs.Room.{Fits, all-fit}
@@ -84,16 +84,6 @@ unfolding add sheetOf
 one-more xs x h = rw (lt-leb mostFiles (length xs) h, with-one xs x h)
 
 -- ---- the verdicts' counts
-
-five : (vs : List ℕ) → All AtMost4 vs → sum (byVerdict vs) ≡ length vs
-unfolding byVerdict
-five [] h = refl
-five (zero ∷ vs) h = omega (arith, five vs (h .1))
-five (suc zero ∷ vs) h = omega (arith, five vs (h .1))
-five (suc (suc zero) ∷ vs) h = omega (arith, five vs (h .1))
-five (suc (suc (suc zero)) ∷ vs) h = omega (arith, five vs (h .1))
-five (suc (suc (suc (suc zero))) ∷ vs) h = omega (arith, five vs (h .1))
-five (suc (suc (suc (suc (suc v)))) ∷ vs) h = absurd (omega (arith, h .0))
 
 abbrev verdictsIn : Taken → List ℕ
 verdictsIn x = fileVerdicts (x .tables) sheetTolerance (content (x .file))

@@ -1,24 +1,58 @@
--- 0 is the least verdict, and 4 the largest. Assumes nothing.
-use Prim.Native.Nat.{ℕ, suc, _≤_}
+-- 0 is the least verdict, that of records without a finding, and 4 the largest. Assumes nothing.
+use Prim.Native.Nat.{ℕ, zero, suc, _+_, _≤_, _<_}
 use native.Mathlib.Omega.{arith}
-use mathlib.Core.Path.{_≡_}
-use mathlib.Core.Bool.{Bool, true, false, cond}
+use mathlib.Core.Path.{_≡_, refl, sym, _∙_}
+use mathlib.Core.Bool.{Bool, true, false, cond, _&&_}
 use mathlib.Core.Option.{Option, none, some}
 use mathlib.Core.List.{List, [], _∷_, _++_, map}
-use lib.Dec.{leb, leb·zero}
+use native.Mathlib.Nat.{not-suc-le-zero}
+use lib.Dec.{leb, leb·zero, eqb}
+use lib.ListN.{length, getD}
+use borrow.Author.Tests.{leb-true, eqb-true, eqb-false}
 use Rattle.format.specs.Bytes.{Bytes, All}
 use Rattle.format.specs.Doc.{Group, Transaction}
 use Rattle.format.specs.Tree.{Tree}
 use Rattle.format.proofs.Logic.{All-append}
+use Rattle.format.proofs.Tests.{by-cases, both}
 use Rattle.rules.specs.Tables.{Tables}
 use Rattle.rules.specs.Records.{any}
 use Rattle.rules.specs.Findings.{Level, FR, RR, TR, GR, level, verdict, verdictOf, larger, worstFrom, worst}
 use Rattle.rules.specs.Works.{namedType, transactionFindings}
 use Rattle.rules.specs.Verdicts.{joined, rejects, raised, isStray, transactionVerdicts, groupVerdicts, fileVerdicts}
+use Rattle.rules.specs.Sheet.{byVerdict}
+use Rattle.rules.specs.Claims.{sum}
 use Rattle.rules.proofs.Joined.{joined-all}
+use Rattle.rules.proofs.Counts.{larger-max}
 
 pub larger-zero : (x : ℕ) → larger 0 x ≡ x
 larger-zero x = rw (leb·zero x)
+
+-- ---- 0 where no finding holds
+
+-- each of the findings below k brings a verdict
+abbrev eachBrings : ℕ → Bool
+eachBrings zero = true
+eachBrings (suc k) = leb 1 (verdictOf (level k)) && eachBrings k
+
+brings : (k n : ℕ) → eachBrings k ≡ true → n < k → 1 ≤ verdictOf (level n)
+brings zero n e h = absurd (not-suc-le-zero h)
+brings (suc k) n e h =
+    let (last, others) = both (leb 1 (verdictOf (level k))) (eachBrings k) e in
+    by-cases (eqb n k)
+    (λ q. rw (eqb-true n k q) (leb-true 1 (verdictOf (level k)) last))
+    (λ q. brings k n others (let ne = eqb-false n k q in omega (arith, h, ne)))
+
+all-bring : eachBrings 47 ≡ true
+unfolding level
+all-bring = refl
+
+-- so that what has verdict 0 carries none
+pub no-finding : (n : ℕ) (set : List Bool) → n + length set ≤ 47 → worstFrom n set ≡ 0 → (k : ℕ) → getD set k false ≡ false
+no-finding n [] h e k = refl
+no-finding n (true ∷ set) h e k =
+    absurd (omega (arith, brings 47 n all-bring (omega (arith, h)), larger-max (verdictOf (level n)) (worstFrom (suc n) set), e))
+no-finding n (false ∷ set) h e zero = refl
+no-finding n (false ∷ set) h e (suc k) = no-finding (suc n) set (omega (arith, h)) (sym (larger-zero (worstFrom (suc n) set)) ∙ e) k
 
 -- ---- at most 4
 
@@ -43,7 +77,7 @@ pub worst-most : (n : ℕ) (set : List Bool) → AtMost4 (worstFrom n set)
 worst-most n [] = omega arith
 worst-most n (b ∷ set) = larger-most (choice-most b (of-option (level n)) (omega arith)) (worst-most (suc n) set)
 
-worsts-most : (sets : List (List Bool)) → All AtMost4 (map worst sets)
+pub worsts-most : (sets : List (List Bool)) → All AtMost4 (map worst sets)
 unfolding worst
 worsts-most [] = tt
 worsts-most (set ∷ sets) = (worst-most 0 set, worsts-most sets)
@@ -54,11 +88,11 @@ raised-most h [] k = tt
 raised-most h (v ∷ vs) k = (larger-most h (k .0), raised-most h vs (k .1))
 
 -- between two records that have no findings
-between : (vs : List ℕ) → All AtMost4 vs → All AtMost4 (0 ∷ vs ++ 0 ∷ [])
+pub between : (vs : List ℕ) → All AtMost4 vs → All AtMost4 (0 ∷ vs ++ 0 ∷ [])
 between vs h = (omega arith, All-append AtMost4 vs (0 ∷ []) h (omega arith, tt))
 
 module _ (tables : Tables) (t : ℕ) where
-  transaction-most : (named : Bytes) (x : Transaction) → All AtMost4 (transactionVerdicts tables t named x)
+  pub transaction-most : (named : Bytes) (x : Transaction) → All AtMost4 (transactionVerdicts tables t named x)
   unfolding transactionVerdicts
   transaction-most named x =
       let sets = transactionFindings tables t named x in
@@ -75,3 +109,15 @@ module _ (tables : Tables) (t : ℕ) where
   pub verdicts-most : (d : Tree) → All AtMost4 (fileVerdicts tables t d)
   unfolding fileVerdicts
   verdicts-most d = between (joined (groupVerdicts tables t) (d .groups)) (joined-all AtMost4 (groupVerdicts tables t) group-most (d .groups))
+
+-- ---- so each has one of five
+
+pub five : (vs : List ℕ) → All AtMost4 vs → sum (byVerdict vs) ≡ length vs
+unfolding byVerdict
+five [] h = refl
+five (zero ∷ vs) h = omega (arith, five vs (h .1))
+five (suc zero ∷ vs) h = omega (arith, five vs (h .1))
+five (suc (suc zero) ∷ vs) h = omega (arith, five vs (h .1))
+five (suc (suc (suc zero)) ∷ vs) h = omega (arith, five vs (h .1))
+five (suc (suc (suc (suc zero))) ∷ vs) h = omega (arith, five vs (h .1))
+five (suc (suc (suc (suc (suc v)))) ∷ vs) h = absurd (omega (arith, h .0))

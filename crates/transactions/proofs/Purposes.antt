@@ -23,31 +23,31 @@ use Rattle.figures.proofs.Records.{length-counts, few-counts}
 use Rattle.transactions.specs.declared.Purpose.{Purpose}
 use Rattle.transactions.specs.declared.Purpose.the-variants.{Write, Count, Search}
 use Rattle.transactions.specs.Walk.{Room}
-use Rattle.transactions.specs.Purposes.{isSearch, Keeps, Kept, Lent, Done, DoneDetails}
+use Rattle.transactions.specs.Purposes.{isWrite, isCount, isSearch, Writes, Wrote, Tells, Told, Lent, Done, DoneDetails}
 use Rattle.transactions.proofs.Entries.{filled-none, filled-then, room-kept}
 use Rattle.transactions.proofs.Laws.{details-append, own-rejects}
 
 -- ---- details
 
-pub done-none : (purpose : Purpose) (tables : Tables) {i m : ℕ} {v g : Bytes} {fs vs : List ℕ} → Lent purpose i m v g fs vs → i ≤ m
-    → DoneDetails purpose tables i i [] false v g fs vs v g fs vs
-done-none purpose tables {i} {m} {v} {g} {fs} {vs} lent le = record { done = none purpose lent; rejects = refl }
+pub done-none : (purpose : Purpose) (tables : Tables) {i m : ℕ} {v g : Bytes} {fs ls : List ℕ} → Lent purpose i m v g fs ls → i ≤ m
+    → DoneDetails purpose tables i i [] false v g fs ls v g fs ls
+done-none purpose tables {i} {m} {v} {g} {fs} {ls} lent le = record { done = none purpose lent; rejects = refl }
   where
-    none : (q : Purpose) → Lent q i m v g fs vs → Done q i i [] v g fs vs v g fs vs
+    none : (q : Purpose) → Lent q i m v g fs ls → Done q i i [] v g fs ls v g fs ls
     none Write room = (filled-none room le, refl, refl)
     none Count begun = (λ ss us c. rw (append-nil ss, append-nil us) c, omega arith, refl, refl)
     none Search l = (refl, refl, refl, refl)
 
-module _ {purpose : Purpose} {tables : Tables} {i n : ℕ} {ds : List Bytes} {rejected : Bool} {v₀ g₀ v g : Bytes} {fs₀ vs₀ fs vs : List ℕ}
-    (before : DoneDetails purpose tables i n ds rejected v₀ g₀ fs₀ vs₀ v g fs vs) where
-  pub done-on : {k : ℕ} {r : Bytes} {found : Found} {v' g' : Bytes} {fs' vs' : List ℕ} → k ≡ n + 1 → Judged tables ds r found
-      → Kept purpose n found v g fs vs v' g' fs' vs'
-      → DoneDetails purpose tables i k (ds ++ r ∷ []) (rejected || eqb (found .level) 3) v₀ g₀ fs₀ vs₀ v' g' fs' vs'
-  done-on {k} {r} {found} {v'} {g'} {fs'} {vs'} next j kept =
+module _ {purpose : Purpose} {tables : Tables} {i n : ℕ} {ds : List Bytes} {rejected : Bool} {v₀ g₀ v g : Bytes} {fs₀ ls₀ fs ls : List ℕ}
+    (before : DoneDetails purpose tables i n ds rejected v₀ g₀ fs₀ ls₀ v g fs ls) where
+  pub done-on : {k : ℕ} {r : Bytes} {found : Found} {v' g' : Bytes} {fs' ls' : List ℕ} {this : Bool} → k ≡ n + 1 → Judged tables ds r found
+      → Wrote (isWrite purpose) n found v g v' g' → this ≡ eqb (found .level) 3 → Told (isCount purpose) found fs ls fs' ls'
+      → DoneDetails purpose tables i k (ds ++ r ∷ []) (rejected || this) v₀ g₀ fs₀ ls₀ v' g' fs' ls'
+  done-on {k} {r} {found} {v'} {g'} {fs'} {ls'} next j wrote rejects-it told =
       let last : detailsFrom tables [] (ds ++ r ∷ []) ≡ sets ++ own ∷ [] = details-append tables [] ds (r ∷ []) in
       record {
-        done = rw last (more purpose (before .done) kept);
-        rejects = rw (last, any-last rejects sets own, own-rejects tables ds r, before .rejects, j .level);
+        done = rw last (more purpose (before .done) wrote told);
+        rejects = rw (last, any-last rejects sets own, own-rejects tables ds r, before .rejects, rejects-it, j .level);
       }
     where
       sets : List (List Bool)
@@ -56,22 +56,22 @@ module _ {purpose : Purpose} {tables : Tables} {i n : ℕ} {ds : List Bytes} {re
       own : List Bool
       own = ownFindings tables ds r
 
-      more : (q : Purpose) → Done q i n sets v₀ g₀ fs₀ vs₀ v g fs vs → Kept q n found v g fs vs v' g' fs' vs'
-          → Done q i k (sets ++ own ∷ []) v₀ g₀ fs₀ vs₀ v' g' fs' vs'
-      more Write (filled, f, u) (w, f', u') =
+      more : (q : Purpose) → Done q i n sets v₀ g₀ fs₀ ls₀ v g fs ls → Wrote (isWrite q) n found v g v' g' → Told (isCount q) found fs ls fs' ls'
+          → Done q i k (sets ++ own ∷ []) v₀ g₀ fs₀ ls₀ v' g' fs' ls'
+      more Write (filled, f, u) w (f', u') =
           (rw (map-append worst sets (own ∷ []), ← j .level) (filled-then filled (record { end = next; written = w own (j .set) })), f' ∙ f, u' ∙ u)
-      more Count (counted, end, a, b) (one, a', b') = (
+      more Count (counted, end, a, b) (a', b') one = (
         λ ss us c. rw (map-append worst sets (own ∷ []), ← append-assoc ss sets (own ∷ []), ← append-assoc us (map worst sets) (worst own ∷ []), ← j .level)
-            (one (ss ++ sets) (us ++ map worst sets) own (j .set) (omega (arith, own-long tables 0 ds r)) (counted ss us c)),
+            (one (ss ++ sets) (us ++ map worst sets) own (j .set) (j .level) (omega (arith, own-long tables 0 ds r)) (counted ss us c)),
         rw (length-append sets (own ∷ [])) (omega (arith, next, end)),
         a' ∙ a,
         b' ∙ b,
       )
-      more Search (a, b, f, u) (a', b', f', u') = (a' ∙ a, b' ∙ b, f' ∙ f, u' ∙ u)
+      more Search (a, b, f, u) (a', b') (f', u') = (a' ∙ a, b' ∙ b, f' ∙ f, u' ∙ u)
 
   -- where one rejects, those after it need not be judged
   pub done-early : (isSearch purpose && rejected) ≡ true → (es : List Bytes)
-      → DoneDetails purpose tables i n (ds ++ es) rejected v₀ g₀ fs₀ vs₀ v g fs vs
+      → DoneDetails purpose tables i n (ds ++ es) rejected v₀ g₀ fs₀ ls₀ v g fs ls
   done-early stops es =
       let both = is-T (isSearch purpose && rejected) stops in
       let is-rejected = is-true rejected (right (isSearch purpose) rejected both) in
@@ -82,19 +82,19 @@ module _ {purpose : Purpose} {tables : Tables} {i n : ℕ} {ds : List Bytes} {re
             refl;
       }
     where
-      early : (q : Purpose) → isSearch q ≡ true → Done q i n (detailsFrom tables [] ds) v₀ g₀ fs₀ vs₀ v g fs vs
-          → Done q i n (detailsFrom tables [] (ds ++ es)) v₀ g₀ fs₀ vs₀ v g fs vs
+      early : (q : Purpose) → isSearch q ≡ true → Done q i n (detailsFrom tables [] ds) v₀ g₀ fs₀ ls₀ v g fs ls
+          → Done q i n (detailsFrom tables [] (ds ++ es)) v₀ g₀ fs₀ ls₀ v g fs ls
       early Write e done = absurd (false≢true e)
       early Count e done = absurd (false≢true e)
       early Search e done = done
 
   -- no buffer grows or shrinks
-  pub same-lengths : (m : ℕ) → Lent purpose i m v₀ g₀ fs₀ vs₀
-      → (length v ≡ length v₀) × (length g ≡ length g₀) × (length fs ≡ length fs₀) × (length vs ≡ length vs₀)
+  pub same-lengths : (m : ℕ) → Lent purpose i m v₀ g₀ fs₀ ls₀
+      → (length v ≡ length v₀) × (length g ≡ length g₀) × (length fs ≡ length fs₀) × (length ls ≡ length ls₀)
   same-lengths m = same purpose (before .done)
     where
-      same : (q : Purpose) → Done q i n (detailsFrom tables [] ds) v₀ g₀ fs₀ vs₀ v g fs vs → Lent q i m v₀ g₀ fs₀ vs₀
-          → (length v ≡ length v₀) × (length g ≡ length g₀) × (length fs ≡ length fs₀) × (length vs ≡ length vs₀)
+      same : (q : Purpose) → Done q i n (detailsFrom tables [] ds) v₀ g₀ fs₀ ls₀ v g fs ls → Lent q i m v₀ g₀ fs₀ ls₀
+          → (length v ≡ length v₀) × (length g ≡ length g₀) × (length fs ≡ length fs₀) × (length ls ≡ length ls₀)
       same Write (filled, f, u) room = (kept-v (filled .written), kept-f (filled .written), ap length f, ap length u)
       same Count (counted, end, a, b) begun =
           let (f, u) = length-counts (counted (begun .sets) (begun .verdicts) (begun .counts)) in
@@ -103,13 +103,21 @@ module _ {purpose : Purpose} {tables : Tables} {i n : ℕ} {ds : List Bytes} {re
       same Search (a, b, f, u) lent = (ap length a, ap length b, ap length f, ap length u)
 
   -- what is lent has room for one more
-  pub keeps : {m level : ℕ} → Lent purpose i m v₀ g₀ fs₀ vs₀ → (Room m (length v) (length g) → (n < length v) × (8 * (n + 1) ≤ length g))
-      → i + length ds ≤ mostRecords → level ≤ 4 → Keeps purpose n level v g fs vs
-  keeps {m} {level} lent room few low = keep purpose (before .done) lent
+  pub writes : (m : ℕ) → Lent purpose i m v₀ g₀ fs₀ ls₀ → (Room m (length v) (length g) → (n < length v) × (8 * (n + 1) ≤ length g))
+      → Writes (isWrite purpose) n v g
+  writes m lent room = write purpose (before .done) lent
     where
-      keep : (q : Purpose) → Done q i n (detailsFrom tables [] ds) v₀ g₀ fs₀ vs₀ v g fs vs → Lent q i m v₀ g₀ fs₀ vs₀ → Keeps q n level v g fs vs
-      keep Write (filled, f, u) lent = room (room-kept filled lent)
-      keep Count (counted, end, a, b) begun =
+      write : (q : Purpose) → Done q i n (detailsFrom tables [] ds) v₀ g₀ fs₀ ls₀ v g fs ls → Lent q i m v₀ g₀ fs₀ ls₀ → Writes (isWrite q) n v g
+      write Write (filled, f, u) lent = room (room-kept filled lent)
+      write Count done lent = tt
+      write Search done lent = tt
+
+  pub tells : (m : ℕ) {level : ℕ} → Lent purpose i m v₀ g₀ fs₀ ls₀ → i + length ds ≤ mostRecords → level ≤ 4 → Tells (isCount purpose) level fs ls
+  tells m {level} lent few low = tell purpose (before .done) lent
+    where
+      tell : (q : Purpose) → Done q i n (detailsFrom tables [] ds) v₀ g₀ fs₀ ls₀ v g fs ls → Lent q i m v₀ g₀ fs₀ ls₀ → Tells (isCount q) level fs ls
+      tell Write done lent = tt
+      tell Count (counted, end, a, b) begun =
           let sets = detailsFrom tables [] ds in
           let long = each-detail tables 0 [] ds in (
             few-counts (counted (begun .sets) (begun .verdicts) (begun .counts))
@@ -117,4 +125,4 @@ module _ {purpose : Purpose} {tables : Tables} {i n : ℕ} {ds : List Bytes} {re
                 (rw (length-append (begun .verdicts) (map worst sets), length-map sets worst) (omega (arith, few, long, begun .few-verdicts))),
             low,
           )
-      keep Search done lent = tt
+      tell Search done lent = tt

@@ -11,7 +11,8 @@ use tally::Tally;
 ghost use mathlib.Core.Path.{_≡_};
 ghost use mathlib.Core.Bool.{Bool, true, false, _&&_};
 ghost use mathlib.Core.List.{List, [], _∷_, _++_};
-ghost use Prim.Native.Nat.{ℕ, _+_, _*_, _^_, _<_, _≤_};
+ghost use Prim.Native.Nat.{ℕ, _+_, _^_, _<_, _≤_};
+ghost use lib.Dec.{eqb};
 ghost use lib.ListN.{length, take, drop};
 ghost use Rattle.format.specs.Bytes.{Bytes, sameBytes};
 ghost use Rattle.format.specs.Table.{head};
@@ -21,6 +22,7 @@ ghost use Rattle.format.specs.Structure.{mostBytes, mostRecords, firstOf};
 ghost use Rattle.format.specs.Tree.{span, isDetail};
 ghost use Rattle.rules.specs.Tables.{Tables};
 ghost use Rattle.rules.specs.Values.{largestTolerance};
+ghost use Rattle.rules.specs.Findings.{verdict, TR as Level·TR};
 ghost use Rattle.tables.specs.Index.{Indexed};
 ghost use Rattle.kinds.specs.Rows.{typeOf, rowFor};
 ghost use Rattle.chains.specs.Tallies.{chainsOf, Tallied, Small};
@@ -30,7 +32,7 @@ ghost use Rattle.headers.specs.Headed.{Linked, Headed};
 ghost use Rattle.structure.specs.Cursor.{Here};
 ghost use Rattle.transactions.specs.Walk.{Outset, Turned};
 ghost use Rattle.transactions.specs.Walk.{restAt, frontOf, Prepared, Room, PastDetails, PastTransaction, FilledTransaction};
-ghost use Rattle.transactions.specs.Purposes.{isSearch, Keeps, Kept, Lent, DoneDetails};
+ghost use Rattle.transactions.specs.Purposes.{isWrite, isCount, isSearch, Writes, Wrote, Tells, Told, Lent, DoneDetails};
 
 // Where a walk over a transaction's details stands: at a byte of the file, before a record of that number; and what is known of the
 // details so far. The tallies of their chains are kept beside it.
@@ -150,6 +152,26 @@ pub enum Purpose {
 }
 
 impl Purpose {
+    fn is_write(self) -> bool
+        ensures { λ r. ⌜ r ≡ isWrite self ⌝ }
+    {
+        match self {
+            Purpose::Write => true,
+            Purpose::Count => false,
+            Purpose::Search => false,
+        }
+    }
+
+    fn is_count(self) -> bool
+        ensures { λ r. ⌜ r ≡ isCount self ⌝ }
+    {
+        match self {
+            Purpose::Write => false,
+            Purpose::Count => true,
+            Purpose::Search => false,
+        }
+    }
+
     fn is_search(self) -> bool
         ensures { λ r. ⌜ r ≡ isSearch self ⌝ }
     {
@@ -161,29 +183,31 @@ impl Purpose {
     }
 }
 
-// What is done with a detail that is judged.
-fn keep(
-    purpose: Purpose,
-    index: usize,
-    found: Found,
-    verdicts: &mut [u8],
-    findings: &mut [u8],
-    carriers: &mut [u64],
-    levels: &mut [u64],
-)
-    requires { ⌜ Keeps purpose index (found .level) (now verdicts) (now findings) (now carriers) (now levels) ⌝ }
-    ensures { λ _. ⌜ Kept purpose index found (now (verdicts .entry)) (now (findings .entry)) (now (carriers .entry)) (now (levels .entry))
-        (now (verdicts .exit)) (now (findings .exit)) (now (carriers .exit)) (now (levels .exit)) ⌝ }
+// The entry of a detail that is judged, where entries are written.
+fn write(purpose: Purpose, index: usize, found: Found, verdicts: &mut [u8], findings: &mut [u8])
+    requires { ⌜ Writes (isWrite purpose) index (now verdicts) (now findings) ⌝ }
+    ensures { λ _. ⌜ Wrote (isWrite purpose) index found (now (verdicts .entry)) (now (findings .entry)) (now (verdicts .exit)) (now (findings .exit)) ⌝ }
 {
-    match purpose {
-        Purpose::Write => {
-            buffers::settle(index, found.set, found.level, verdicts, findings);
-        }
-        Purpose::Count => {
-            figures::count(found.set, found.level, carriers, levels);
-        }
-        Purpose::Search => {}
+    if purpose.is_write() {
+        buffers::settle(index, found.set, found.level, verdicts, findings);
     }
+}
+
+// Whether it rejects the transaction; and it is counted, where details are. Most have no finding, and are done with at once.
+fn tell(purpose: Purpose, found: Found, carriers: &mut [u64], levels: &mut [u64]) -> bool
+    requires { ⌜ Tells (isCount purpose) (found .level) (now carriers) (now levels) ⌝ }
+    ensures { λ r. ⌜ r ≡ eqb (found .level) (verdict Level·TR) ⌝ }
+    ensures { λ r. ⌜ Told (isCount purpose) found (now (carriers .entry)) (now (levels .entry)) (now (carriers .exit)) (now (levels .exit)) ⌝ }
+{
+    if found.level == 0 {
+        return false;
+    }
+    let rejects = found.level == TR;
+    if purpose.is_count() {
+        figures::count(found.set, found.level, carriers, levels);
+        return rejects;
+    }
+    rejects
 }
 
 // The details that stand here, after a header; the first of them is that record of the file. Each is judged and kept, as the purpose is;
@@ -244,16 +268,8 @@ pub fn judge_details(
             &mut sums,
         );
         let found = s.found;
-        keep(
-            purpose,
-            w.index,
-            found,
-            verdicts,
-            findings,
-            carriers,
-            levels,
-        );
-        rejects = rejects | (found.level == TR);
+        write(purpose, w.index, found, verdicts, findings);
+        rejects = rejects | tell(purpose, found, carriers, levels);
         w = s.walk;
     }
 }

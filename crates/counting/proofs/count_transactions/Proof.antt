@@ -10,44 +10,45 @@ use Rattle.rules.specs.Verdicts.{transactionVerdicts}
 use Rattle.rules.proofs.Each.{transaction-findings}
 use Rattle.tables.specs.Index.{Indexed}
 use Rattle.transactions.specs.Walk.{restAt, frontOf}
+use Rattle.transactions.specs.Purposes.{Begun}
 use Rattle.files.proofs.Transactions.{Inv, begins, xs, position, done, header-here, one-more, fewer-left, past-all, all-done}
-use Rattle.counting.specs.Levels.{Carried, MissingOn, CountedTransactions}
-use Rattle.counting.proofs.Parts.{carried-long, carried-on, few-part, part-start, part-more}
+use Rattle.counting.specs.Levels.{MissingOn, CountedTransactions}
+use Rattle.counting.proofs.Parts.{begun-long, begun-on, part-start, part-more}
 use Rattle.counting.proofs.Shares.{within-more, up-more, missing-none, missing-one, missing-then}
 use Rattle.counting.proofs.count_transactions.Statement.{statement}
 use Rattle.counting.proofs.count_transactions.Tie as tie
 
 abbrev Inv-loop : tie.InvT-loop
-Inv-loop file start first named t slots carriers₀ _ m₀ _ carriers p m v =
+Inv-loop file start first named t slots carriers₀ levels₀ _ m₀ carriers levels p m =
     Inv named file (first + length (restAt file start)) start
     (λ xs. MissingOn first (p .index) xs m₀ m
-    × ((tables : Tables) → Indexed tables slots → CountedTransactions tables t named first (p .index) xs carriers₀ carriers v)) p
+    × ((tables : Tables) → Indexed tables slots → CountedTransactions tables t named first (p .index) xs carriers₀ levels₀ carriers levels)) p
 
 abbrev μ-loop : tie.MeasureT-loop
-μ-loop file _ _ _ _ _ _ _ _ _ _ p _ _ = length (restAt file (p .at))
+μ-loop file _ _ _ _ _ _ _ _ _ _ _ p _ = length (restAt file (p .at))
 
 -- ---- each call from the one after it
 
 abbrev start-of : tie.At-loop Inv-loop μ-loop → tie.Start Inv-loop μ-loop
-start-of c = c .before .before .before .before
+start-of c = c .before .before .before .before .before
 
 abbrev loop-of : tie.After-count-transaction Inv-loop μ-loop → tie.At-loop Inv-loop μ-loop
-loop-of c = c .before .before .before .before
+loop-of c = c .before .before .before .before .before
 
 abbrev one-of : tie.After-with Inv-loop μ-loop → tie.After-count-transaction Inv-loop μ-loop
-one-of c = c .before .before .before .before .before .before
+one-of c = c .before .before .before .before .before .before .before
 
 -- ---- what is counted so far
 
 loop-holds : tie.Need-loop-holds Inv-loop μ-loop
 loop-holds c =
-    let start = c .before .before .before in
-    begins (record { here = start .pre .0 .1; left = refl }) (missing-none _ _, λ tables e. part-start _ _)
+    let start = c .before .before .before .before in
+    begins (record { here = start .pre .0 .1; left = refl }) (missing-none _ _, λ tables e. part-start _ _ _)
 
-carried : (c : tie.At-loop Inv-loop μ-loop) → Carried (c .loop .p .index) (c .loop .carriers)
-carried c =
+begun : (c : tie.At-loop Inv-loop μ-loop) → Begun (c .loop .p .index) (c .loop .carriers) (c .loop .levels)
+begun c =
     let (some, indexed) = start-of c .pre .1 .1 in
-    carried-on (done (c .loop .inv) .1 some indexed) (start-of c .pre .0 .3)
+    begun-on (done (c .loop .inv) .1 some indexed) (start-of c .pre .0 .3)
 
 -- before the last record
 few : (c : tie.At-loop Inv-loop μ-loop) → c .loop .p .index ≤ mostRecords
@@ -57,11 +58,11 @@ few c = omega (arith, position (c .loop .inv) .left, start-of c .pre .0 .2)
 
 count-transaction-requires : tie.Need-count-transaction-requires Inv-loop μ-loop
 count-transaction-requires c κs =
-    let loop = c .before .before .before in
+    let loop = c .before .before .before .before in
     let start = start-of loop in
     let inv = loop .loop .inv in
     let here = position inv in
-    ((start .pre .0 .0, here .here, header-here inv (c .before .if1 .taken), rw (here .left) (start .pre .0 .2), carried loop), start .pre .1)
+    ((start .pre .0 .0, here .here, header-here inv (c .before .before .if1 .taken), rw (here .left) (start .pre .0 .2), begun loop), start .pre .1)
 
 -- it ends among the records, with as many as it has
 ended : (c : tie.After-count-transaction Inv-loop μ-loop)
@@ -80,45 +81,37 @@ few-then c =
 
 with-requires : tie.Need-with-requires Inv-loop μ-loop
 with-requires c κs =
-    let one = c .before .before .before .before .before in
+    let one = c .before .before .before .before .before .before in
     let loop = loop-of one in (
       within-more (few loop) (done (loop .loop .inv) .0 .few (start-of loop .pre .0 .4)),
       up-more _ mostRecords (omega (arith, ended one, few-then one)) (one .count-transaction .ensures .1 .0 .1),
     )
 
-together-requires : tie.Need-together-requires Inv-loop μ-loop
-together-requires c κs =
-    let one = one-of c in
-    let loop = loop-of one in
-    let start = start-of loop in
-    let (some, indexed) = start .pre .1 .1 in (
-      few-part (done (loop .loop .inv) .1 some indexed) (few loop) (start .pre .0 .3) .few-verdicts,
-      few-part (one .count-transaction .ensures .1 .1 some indexed) (few-then one) (carried loop) .few-verdicts,
-    )
-
 loop-less : tie.Need-loop-less Inv-loop μ-loop
 loop-less c =
-    let one = one-of (c .before .before .before) in
-    fewer-left (loop-of one .loop .inv) (one .count-transaction .result .passed) (one .before .before .if1 .taken) (one .count-transaction .ensures .0)
+    let one = one-of (c .before .before) in
+    fewer-left (loop-of one .loop .inv) (one .count-transaction .result .passed) (one .before .before .before .if1 .taken) (one .count-transaction .ensures .0)
 
 loop-again : tie.Need-loop-again Inv-loop μ-loop
 loop-again c =
-    let together = c .before .before .together in
-    let with = c .before .before .before .with in
-    let one = one-of (c .before .before .before) in
+    let with = c .before .before .with in
+    let one = one-of (c .before .before) in
     let loop = loop-of one in
     let inv = loop .loop .inv in
     let args = start-of loop .args in
     let counted = one .count-transaction .ensures in
     let x = frontOf (restAt (args .file .now) (loop .loop .p .at)) in
-    one-more inv (one .count-transaction .result .passed) (one .before .before .if1 .taken) (counted .0) (
+    one-more inv (one .count-transaction .result .passed) (one .before .before .before .if1 .taken) (counted .0) (
       missing-then (done inv .0) (missing-one x (ended one) (counted .1 .0 .0) (counted .1 .0 .1) (with .ensures .0) (with .ensures .1)),
       λ tables e. part-more (transactionVerdicts tables (args .t) (args .named .now)) (transactionFindings tables (args .t) (args .named .now)) (xs inv) x
-          (done inv .1 tables e) (counted .1 .1 tables e) (together .ensures),
+          (done inv .1 tables e) (counted .1 .1 tables e),
     )
 
 same-length : tie.Need-same-length Inv-loop μ-loop
-same-length c = let loop = c .before .before in carried-long (carried loop) ∙ sym (carried-long (start-of loop .pre .0 .3))
+same-length c = let loop = c .before .before in begun-long (begun loop) .0 ∙ sym (begun-long (start-of loop .pre .0 .3) .0)
+
+same-length-2 : tie.Need-same-length-2 Inv-loop μ-loop
+same-length-2 c = let loop = c .before .before in begun-long (begun loop) .1 ∙ sym (begun-long (start-of loop .pre .0 .3) .1)
 
 returns : tie.Need-returns Inv-loop μ-loop
 returns c =
@@ -130,4 +123,4 @@ pub count-transactions-spec : {M : Type 1} → statement M
 count-transactions-spec =
     tie.close
     (tie.spec
-    Inv-loop μ-loop loop-holds count-transaction-requires with-requires together-requires loop-less loop-again same-length returns)
+    Inv-loop μ-loop loop-holds count-transaction-requires with-requires loop-less loop-again same-length same-length-2 returns)

@@ -18,7 +18,7 @@ use Rattle.transactions.specs.Walk.{restAt, Prepared, Turned}
 use Rattle.transactions.specs.Purposes.{isSearch, DoneDetails}
 use Rattle.transactions.proofs.Entries.{entry-room}
 use Rattle.transactions.proofs.Laws.{own-worst, none-left, is-detail}
-use Rattle.transactions.proofs.Purposes.{done-none, done-on, done-early, same-lengths, keeps}
+use Rattle.transactions.proofs.Purposes.{done-none, done-on, done-early, same-lengths, writes, tells}
 use Rattle.transactions.proofs.Gone.{Inv, begins, ds, r, position, here, three, known, tallied, done, numbered, among-all, below, small-chains}
 use Rattle.transactions.proofs.Gone.{split-left, one-more, fewer-left, past, all-done}
 use Rattle.transactions.proofs.judge_details.Statement.{statement}
@@ -48,8 +48,14 @@ loop-of c = c .before .before .before
 abbrev row-of : tie.After-judge-detail Inv-loop μ-loop → tie.After-row-at Inv-loop μ-loop
 row-of c = c .before .before .before .before .before .before .before .before
 
-abbrev judged-of : tie.After-keep Inv-loop μ-loop → tie.After-judge-detail Inv-loop μ-loop
-judged-of c = c .before .before .before .before .before .before
+abbrev judged-of : tie.After-write Inv-loop μ-loop → tie.After-judge-detail Inv-loop μ-loop
+judged-of c = c .before .before .before .before
+
+abbrev written-of : tie.After-tell Inv-loop μ-loop → tie.After-write Inv-loop μ-loop
+written-of c = c .before .before .before .before .before .before .before
+
+abbrev told-of : tie.After-w Inv-loop μ-loop → tie.After-tell Inv-loop μ-loop
+told-of c = c .before .before .before .before .before
 
 -- ---- the start, and the row of the record that stands here
 
@@ -132,22 +138,24 @@ turned : (c : tie.After-judge-detail Inv-loop μ-loop) (tables : Tables) → Ind
     → Turned tables (ds (loop-of (row-of c) .loop .inv)) (r (loop-of (row-of c) .loop .inv)) (c .judge-detail .result)
 turned c tables e = let inv = loop-of (row-of c) .loop .inv in c .judge-detail .ensures .1 tables (ds inv) e (known inv) (tallied inv) .0
 
-keep-requires : tie.Need-keep-requires Inv-loop μ-loop
-keep-requires c κs =
-    let judged = c .before .before .before .before .before in
+write-requires : tie.Need-write-requires Inv-loop μ-loop
+write-requires c κs =
+    let loop = loop-of (row-of (c .before .before .before)) in
+    writes (done-so-far loop) _ (start-of loop .pre .0 .3) (entry-room (position (loop .loop .inv)) refl)
+
+tell-requires : tie.Need-tell-requires Inv-loop μ-loop
+tell-requires c κs =
+    let judged = judged-of (c .before .before .before .before .before .before) in
     let loop = loop-of (row-of judged) in
     let inv = loop .loop .inv in
     let start = start-of loop in
     let level = turned judged (some loop .0) (some loop .1) .judged .level in
-    keeps (done-so-far loop) (start .pre .0 .3) (entry-room (position inv) refl) (omega (arith, among-all inv, start .pre .0 .2))
+    tells (done-so-far loop) _ (start .pre .0 .3) (omega (arith, among-all inv, start .pre .0 .2))
     (rw level (omega (arith, own-worst (some loop .0) (ds inv) (r inv))))
-
-abbrev kept-of : tie.After-w Inv-loop μ-loop → tie.After-keep Inv-loop μ-loop
-kept-of c = c .before .before .before .before .before .before .before .before .before .before
 
 loop-less : tie.Need-loop-less Inv-loop μ-loop
 loop-less c =
-    let judged = judged-of (kept-of c) in
+    let judged = judged-of (written-of (told-of c)) in
     let row = row-of judged in
     let (at, index) = judged .judge-detail .ensures .0 in
     fewer-left (loop-of row .loop .inv) (row .row-at .ensures) (is-detail _ _ (judged .before .before .before .before .before .before .if1 .left))
@@ -155,8 +163,9 @@ loop-less c =
 
 loop-again : tie.Need-loop-again Inv-loop μ-loop
 loop-again c =
-    let kept = kept-of c in
-    let judged = judged-of kept in
+    let told = told-of c in
+    let written = written-of told in
+    let judged = judged-of written in
     let row = row-of judged in
     let loop = loop-of row in
     let inv = loop .loop .inv in
@@ -165,7 +174,7 @@ loop-again c =
     (judged .judge-detail .result .walk) at index
     (turned judged (some loop .0) (some loop .1) .known)
     (judged .judge-detail .ensures .1 (some loop .0) (ds inv) (some loop .1) (known inv) (tallied inv) .1)
-    (λ tables e. done-on (done inv tables e) index (turned judged tables e .judged) (kept .keep .ensures))
+    (λ tables e. done-on (done inv tables e) index (turned judged tables e .judged) (written .write .ensures) (told .tell .ensures .0) (told .tell .ensures .1))
 
 pub judge-details-spec : {M : Type 1} → statement M
 judge-details-spec =
@@ -173,4 +182,4 @@ judge-details-spec =
     (tie.spec
     Inv-loop μ-loop (λ c κs. search needs) (λ c κs. search needs) (λ c κs. search needs) loop-holds hint-at-requires (λ c. search needs)
     (λ c. search needs) row-at-requires (λ c κs. search needs) same-length same-length-2 same-length-3 same-length-4 returns judge-detail-requires
-    keep-requires loop-less loop-again)
+    write-requires tell-requires loop-less loop-again)
