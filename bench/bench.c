@@ -17,7 +17,7 @@
 #include "read.h"
 #include "stack.h"
 
-/* The structural check alone, refusals 3 to 10; its answer is as cwr_check's. */
+/* The structural check alone, refusals 3 to 10; its answer is as cwr_check_within's. */
 uint64_t probe_structure(const uint8_t *file, size_t length);
 
 enum work { READ, COPY, STRUCTURE, CHECK, SEARCH, SHEET, NUMBER, WORKS };
@@ -53,9 +53,9 @@ static uint64_t structure(struct bench *b) {
 
 static uint64_t check(struct bench *b) {
     const struct codes *tables = b->file.tables;
-    return cwr_check(b->file.bytes, b->file.length, tables[LANGUAGES].bytes, tables[LANGUAGES].length, tables[SOCIETIES].bytes,
-                     tables[SOCIETIES].length, tables[CATEGORIES].bytes, tables[CATEGORIES].length, b->verdicts, CWR_MOST_RECORDS,
-                     b->findings, FINDINGS_BYTES);
+    return cwr_check_within(CWR_LARGEST_TOLERANCE, b->file.bytes, b->file.length, tables[LANGUAGES].bytes, tables[LANGUAGES].length,
+                            tables[SOCIETIES].bytes, tables[SOCIETIES].length, tables[CATEGORIES].bytes, tables[CATEGORIES].length,
+                            b->verdicts, CWR_MOST_RECORDS, b->findings, FINDINGS_BYTES);
 }
 
 static uint64_t search(struct bench *b) {

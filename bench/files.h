@@ -6,7 +6,7 @@
 #include "../include/cwr.h"
 #include "system.h"
 
-/* The lent tables, in the order of cwr_check. */
+/* The lent tables, in the order of cwr_check_within. */
 enum { LANGUAGES, SOCIETIES, CATEGORIES, TABLES };
 
 struct codes {

@@ -4,13 +4,9 @@
 #include "out.h"
 #include "words.h"
 
-/* Where no tolerance was asked for, the short form of the call. */
 uint64_t run_check(const struct run *run, struct bytes file, uint8_t *verdicts, size_t verdicts_length, uint8_t *findings,
                    size_t findings_length) {
     const struct table *of = run->tables.of;
-    if (!run->options->has_tolerance)
-        return cwr_check(file.at, file.length, of[0].codes, of[0].length, of[1].codes, of[1].length, of[2].codes, of[2].length, verdicts,
-                         verdicts_length, findings, findings_length);
     return cwr_check_within(run->tolerance, file.at, file.length, of[0].codes, of[0].length, of[1].codes, of[1].length, of[2].codes,
                             of[2].length, verdicts, verdicts_length, findings, findings_length);
 }
@@ -38,6 +34,7 @@ static bool is_taken(const struct run *run) {
     return true;
 }
 
+/* Where no tolerance is asked for, it is the largest: the library's short form has none at all. */
 bool run_begin(struct run *run, const struct options *options) {
     *run = (struct run){.options = options, .tolerance = options->has_tolerance ? options->tolerance : CWR_LARGEST_TOLERANCE};
     if (!tables_read(options->tables, &run->tables))

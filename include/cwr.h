@@ -13,6 +13,9 @@
  *   numbering up to 3 KB (measured, by `bench/run stack`); 128 KB are enough for
  *   any call. No memory is allocated.
  * - A record is the text before a CR LF pair; records count from 0.
+ * - The tolerance is how far the totals of a work's shares may be off before they
+ *   are findings 1 to 3, in hundredths of a percent: none at all in cwr_check, 6
+ *   in cwr_sheet_add, and the caller's choice in the other two calls that judge.
  *
  * What is answered by the first five calls
  * - Passed: the number of records, or of a transaction, which is below 2^32.
@@ -76,7 +79,8 @@ enum cwr_verdict {
 /* A right: performing, mechanical, synchronisation. */
 enum cwr_right { CWR_PR = 0, CWR_MR = 1, CWR_SR = 2 };
 
-/* Checks a file with tolerance 6, so never answers refusal 1.
+/* Checks a file that is to go out: with tolerance 0, so that shares have to be
+ * exact, and never answers refusal 1.
  *
  * The three tables are codes one after the other, in any order, repeats and
  * emptiness allowed: languages of 2 bytes, societies of 3, distribution
@@ -95,8 +99,9 @@ uint64_t cwr_check(const uint8_t *file, size_t file_length,
                    uint8_t *verdicts, size_t verdicts_length,
                    uint8_t *findings, size_t findings_length);
 
-/* The same with a tolerance of choice, in hundredths of a percent; one above 6
- * is refused by 1. */
+/* The same with a tolerance of choice, 0 to 6; one above 6 is refused by 1. With
+ * a smaller one each record has all the findings that it has with a larger one,
+ * and no smaller verdict. */
 uint64_t cwr_check_within(uint64_t tolerance,
                           const uint8_t *file, size_t file_length,
                           const uint8_t *languages, size_t languages_length,
@@ -151,9 +156,9 @@ uint64_t cwr_number(const uint8_t *file, size_t file_length,
  * records are those of the files that passed, rejected ones and control records
  * among them.
  *
- * The file is checked with tolerance 6, as cwr_check does it, and the answer is
- * the check's: passed, or refused by 2 to 10, with the same place. No buffers
- * are lent for it. Passed: each number becomes what it is over the list of all
+ * The file is checked as cwr_check_within does it with tolerance 6, and the
+ * answer is the check's: passed, or refused by 2 to 10, with the same place. No
+ * buffers are lent for it. Passed: each number becomes what it is over the list of all
  * files taken, this one among them, in whatever order they came; so the counts
  * by verdict come to the records of the files that passed. Refused by 2 to 10:
  * the numbers 0 and 1 become larger by one, and nothing else is changed.

@@ -15,7 +15,7 @@
  *   CWR_DOUBLE_UNSYNCED "1"      no folder can be synced
  *
  * Otherwise a file passes with as many records as it has CR LF pairs, all accepted, a sheet counts the files alone, and numbering copies
- * them. */
+ * them. There is no cwr_check here, since the host names its tolerance. */
 #include "cwr.h"
 
 #include <errno.h>
@@ -63,13 +63,6 @@ uint64_t cwr_check_within(uint64_t tolerance, const uint8_t *file, size_t file_l
             findings[8 * i + at] = (uint8_t)(set >> (8 * at));
     }
     return answered;
-}
-
-uint64_t cwr_check(const uint8_t *file, size_t file_length, const uint8_t *languages, size_t languages_length, const uint8_t *societies,
-                   size_t societies_length, const uint8_t *categories, size_t categories_length, uint8_t *verdicts,
-                   size_t verdicts_length, uint8_t *findings, size_t findings_length) {
-    return cwr_check_within(CWR_LARGEST_TOLERANCE, file, file_length, languages, languages_length, societies, societies_length, categories,
-                            categories_length, verdicts, verdicts_length, findings, findings_length);
 }
 
 uint64_t cwr_first_rejected(uint64_t tolerance, const uint8_t *file, size_t file_length, const uint8_t *languages,

@@ -118,7 +118,7 @@ pub fn check(
     r
 }
 
-// The short form, with the largest tolerance.
+// The short form, for files that go out: without tolerance, and so never refused by 1.
 pub fn check_short(
     file: &[u8],
     languages: &[u8],
@@ -135,7 +135,7 @@ pub fn check_short(
         languages,
         societies,
         categories,
-        Share::SLACK,
+        Share::EXACT,
         verdicts,
         findings,
     )

@@ -2,16 +2,17 @@
 use Prim.Native.Nat.{ℕ, _^_, _≤_, _<_}
 use native.Mathlib.Omega.{arith}
 use mathlib.Core.Path.{_≡_, refl, sym, ap, _∙_, subst}
+use mathlib.Core.Logic.{_≢_}
 use lib.ListN.{length}
 use Rattle.format.specs.Bytes.{Bytes}
 use Rattle.format.specs.Structure.{Answer, refused, passed, mostRecords}
 use Rattle.format.specs.Claims.{Near}
-use Rattle.rules.specs.Outcome.{check}
+use Rattle.rules.specs.Outcome.{check, shortTolerance}
 use Rattle.rules.specs.Tables.{Tables}
 use Rattle.rules.specs.First.{First, refusedAs, nothing, at, first}
 use Rattle.rules.proofs.Outcomes.{checks}
 use Rattle.rules.proofs.First.{firsts}
-use Rattle.answers.specs.Numbers.{exact}
+use Rattle.answers.specs.Numbers.{toldOf, exact}
 use Rattle.answers.specs.Claims.{Named, Says}
 use Rattle.answers.proofs.Alone.{exact-says, exact-alone}
 use Rattle.numbering.specs.Outcome.{numberAnswer}
@@ -40,6 +41,10 @@ of-check-near a (tables, t, f, v, g, e) = subst Near e (checks .near tables t f 
 of-check-named : (a : Answer) → OfCheck a → Named a
 of-check-named (refused n i) (tables, t, f, v, g, e) = checks .numbers tables t f v g n i e .0
 of-check-named (passed k m n) o = tt
+
+never-1 : (a : Answer) → ((i : ℕ) → a ≢ refused 1 i) → toldOf a .refusal ≢ 1
+never-1 (refused n i) h e = h i (ap (λ k. refused k i) e)
+never-1 (passed k m n) h e = omega (arith, e)
 
 -- ---- the first work to look at
 
@@ -76,6 +81,9 @@ one-number (at k) (at j) p q e = ap at e
 pub read-off : ReadOff
 read-off = record {
   check = λ tables t f v g r v' g' p. says r (check tables t f v g .answer) (p .0) (checks .near tables t f v g);
+  short-form = λ tables f v g r v' g' p e.
+      let a = check tables shortTolerance f v g .answer in
+      never-1 a (checks .short-form tables f v g) (sym (says r a (p .0) (checks .near tables shortTolerance f v g) .0) ∙ e);
   sheet = λ sheet x r sheet' p. says r (sheetAnswer sheet x) (p .0) (sheet-near sheet x);
   number = λ f out r out' p. says r (numberAnswer f (length out)) (p .0) (near f (length out));
   first-alone = λ tables tables' t t' f f'. one-number _ _ (known tables t f _ refl) (known tables' t' f' _ refl);

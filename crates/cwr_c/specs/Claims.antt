@@ -1,13 +1,14 @@
 -- What can be read off the number that a call from C answers, and what calls come to that follow one another on a sheet. proofs/Alone.antt and
 -- proofs/Following.antt have the proofs.
-use Prim.Native.Nat.{ℕ, _≤_, _<_}
+use Prim.Native.Nat.{ℕ, _/_, _^_, _≤_, _<_}
 use mathlib.Core.Path.{_≡_}
 use mathlib.Core.List.{List, [], _∷_, _++_}
+use mathlib.Core.Logic.{_≢_}
 use lib.ListN.{length, replicate}
 use Rattle.format.specs.Bytes.{Bytes, All}
 use Rattle.format.specs.Structure.{Answer, refused}
 use Rattle.rules.specs.Tables.{Tables}
-use Rattle.rules.specs.Outcome.{check}
+use Rattle.rules.specs.Outcome.{check, shortTolerance}
 use Rattle.rules.specs.First.{first}
 use Rattle.rules.specs.Sheet.{Taken, answerTo, sheetOf, mostFiles}
 use Rattle.answers.specs.Numbers.{exact}
@@ -26,6 +27,8 @@ pub record ReadOff : Type 0 where
   -- the number says which refusal at which place, or how many records,
   pub check : (tables : Tables) (t : ℕ) (f v g : Bytes) (r : ℕ) (v' g' : Bytes) → CheckedC tables t f v g r v' g'
       → Says r (check tables t f v g .answer)
+  -- in the short form never refusal 1,
+  pub short-form : (tables : Tables) (f v g : Bytes) (r : ℕ) (v' g' : Bytes) → CheckedC tables shortTolerance f v g r v' g' → r / 2 ^ 32 ≢ 1
   pub sheet : (sheet : Bytes) (x : Taken) (r : ℕ) (sheet' : Bytes) → SheetAddedC sheet x r sheet' → Says r (sheetAnswer sheet x)
   pub number : (f out : Bytes) (r : ℕ) (out' : Bytes) → NumberedC f out r out' → Says r (numberAnswer f (length out))
   -- no two outcomes of the search for the first work have the same number,

@@ -6,7 +6,7 @@ ghost use Rattle.rules.specs.Tables.{tablesOf};
 ghost use Rattle.cwr.specs.Promises.{Counted, Lowest, RightLength};
 ghost use Rattle.cwr_c.specs.Promises.{CheckedC, FirstRejectedC, SheetAddedC, NumberedC};
 
-// The short form of the check.
+// The short form of the check, for files that go out: without tolerance.
 #[no_mangle]
 pub extern "C" fn cwr_check(
     file: &[u8],

@@ -2,6 +2,7 @@
 // Each function writes from a place on and answers the place after what it wrote.
 use answers::Answer;
 use answers::MOST_RECORDS;
+use values::Share;
 ghost use mathlib.Core.Path.{_≡_};
 ghost use mathlib.Core.Bool.{true};
 ghost use mathlib.Core.List.{[], _∷_, _++_};
@@ -223,11 +224,12 @@ fn put_checked(
     requires { ⌜ 64 + 10 * length (now file) ≤ length (now out) ⌝ }
     ensures { λ r. ⌜ Put 0 (listed listingTables largestTolerance (now (file .entry))) (now (out .entry)) (now (out .exit)) r ⌝ }
 {
-    let answer = cwr::check_short(
+    let answer = cwr::check(
         file,
         b"ENFRDE",
         b"035044058",
         b"POPJAZSER",
+        Share::SLACK,
         verdicts,
         findings,
     );

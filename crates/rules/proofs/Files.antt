@@ -15,7 +15,7 @@ use Rattle.format.proofs.Examples.{fileA}
 use Rattle.rules.specs.Tables.{Tables, rightTable}
 use Rattle.rules.specs.Findings.{setOf, countOf, lowestOf, level, worst}
 use Rattle.rules.specs.Verdicts.{findingBytes, rejects, raised, isStray, groupFindings, fileFindings, transactionVerdicts, groupVerdicts, fileVerdicts}
-use Rattle.rules.specs.Outcome.{admission, answer, Outcome, check}
+use Rattle.rules.specs.Outcome.{admission, answer, Outcome, check, shortTolerance}
 use Rattle.rules.specs.First.{isGrave, ofEach, firstRejected, First, refusedAs, nothing, at, first}
 use Rattle.rules.specs.Listing.{figure, recordLine, answerLine, listed, mostInput, listingTables, listing}
 use Rattle.rules.proofs.Made.{_is_, made, header, writer, foundOn}
@@ -85,6 +85,32 @@ findingsB =
     ++ none
     ++ none
 
+-- a work with this much of PR
+fileOf : String → Bytes
+fileOf pr =
+    unlines
+    (opens
+    ∷ opening "00001"
+    ∷ header "NWR" (4 is "0000000000000000" ∷ [])
+    ∷ writer "SWR" (4 is "0000000000000001" ∷ 130 is pr ∷ [])
+    ∷ closing "000010000000100000004"
+    ∷ ends "000010000000100000006"
+    ∷ [])
+
+-- which is too little
+verdictsShort : Bytes
+verdictsShort = 0 ∷ 0 ∷ 3 ∷ 3 ∷ 0 ∷ 0 ∷ []
+
+findingsShort : Bytes
+findingsShort =
+    none
+    ++ none
+    -- 3
+    ++ (8 ∷ 0 ∷ 0 ∷ 0 ∷ 0 ∷ 0 ∷ 0 ∷ 0 ∷ [])
+    ++ none
+    ++ none
+    ++ none
+
 -- ---- outcomes
 
 -- tables, tolerance, file and buffers; answer and buffers
@@ -115,6 +141,11 @@ examples =
     (passed 2 3 13)
     ((0 ∷ 0 ∷ 1 ∷ 0 ∷ 2 ∷ 3 ∷ 3 ∷ 0 ∷ 4 ∷ 4 ∷ 4 ∷ 4 ∷ 0 ∷ []) ++ ascii "abc")
     (findingsB ++ ascii "de")
+    -- the short form lets no hundredth pass
+    ∷ goes shortTolerance fileA (replicate 6 255) (replicate 48 255) (passed 1 1 6) (replicate 6 0) (replicate 48 0)
+    ∷ goes shortTolerance (fileOf "09999") (replicate 6 255) (replicate 48 255) (passed 1 1 6) verdictsShort findingsShort
+    ∷ goes 6 (fileOf "09994") (replicate 6 255) (replicate 48 255) (passed 1 1 6) (replicate 6 0) (replicate 48 0)
+    ∷ goes 5 (fileOf "09994") (replicate 6 255) (replicate 48 255) (passed 1 1 6) verdictsShort findingsShort
     -- 1, and before 2
     ∷ stops listingTables 7 fileA (replicate 6 255) (replicate 48 255) 1 0
     ∷ stops (lent (ascii "E") (ascii "0") (ascii "P")) 7 [] [] [] 1 0
@@ -177,6 +208,25 @@ listings =
     ∷ "11 GRT 4 0 -"
     ∷ "12 TRL 0 0 -"
     ∷ [])
+    -- six hundredths are let pass, and not seven
+    ∷ prints (fileOf "09994")
+    ("GROUPS 1 TRANSACTIONS 1 RECORDS 6"
+    ∷ "0 HDR 0 0 -"
+    ∷ "1 GRH 0 0 -"
+    ∷ "2 NWR 0 0 -"
+    ∷ "3 SWR 0 0 -"
+    ∷ "4 GRT 0 0 -"
+    ∷ "5 TRL 0 0 -"
+    ∷ [])
+    ∷ prints (fileOf "09993")
+    ("GROUPS 1 TRANSACTIONS 1 RECORDS 6"
+    ∷ "0 HDR 0 0 -"
+    ∷ "1 GRH 0 0 -"
+    ∷ "2 NWR 3 1 3"
+    ∷ "3 SWR 3 0 -"
+    ∷ "4 GRT 0 0 -"
+    ∷ "5 TRL 0 0 -"
+    ∷ [])
     ∷ prints [] ("REFUSED 7 0" ∷ [])
     ∷ []
 
@@ -225,7 +275,7 @@ searches =
 
 all-files : (map computed examples ≡ map said examples) × (map printed listings ≡ map shown listings) × (map sought searches ≡ map answered searches)
 unfolding examples computed said goes stops lent findingsB none listings printed shown texts searches sought answered fileA fileB fileC
-    fileD opens mild ends opening closing foundOn check answer admission rightTable structure judged lines isText decimal rows22
+    fileD fileOf verdictsShort findingsShort opens mild ends opening closing foundOn check answer admission rightTable structure judged lines isText decimal rows22
     version22 tree findingBytes rejects raised isStray groupFindings fileFindings transactionVerdicts groupVerdicts fileVerdicts
     setOf bytesOf level worst figure recordLine answerLine listed listing countOf lowestOf first isGrave firstRejected ofEach
 all-files = (refl, refl, refl)

@@ -15,6 +15,7 @@ pub mod Found
 pub mod OwnSets
 pub mod ReadOff
 pub mod First
+pub mod Tolerances
 pub mod SmallChange
 pub mod Counts
 pub mod Together

@@ -1,11 +1,11 @@
--- What is claimed of the outcome of a check, of the first transaction to look at, of finding 2 beside 1 and 3, and of the catalogue sheet.
--- proofs/Outcomes.antt, proofs/First.antt, proofs/SmallChange.antt and proofs/Sheets.antt have the proofs.
+-- What is claimed of the outcome of a check, of the first transaction to look at, of tolerances, of finding 2 beside 1 and 3, and of the catalogue
+-- sheet. proofs/Outcomes.antt, proofs/First.antt, proofs/Tolerances.antt, proofs/SmallChange.antt and proofs/Sheets.antt have the proofs.
 use Prim.Native.Nat.{ℕ, zero, suc, _+_, _*_, _^_, _≤_, _<_}
 use mathlib.Core.Path.{_≡_}
 use mathlib.Core.Bool.{Bool, true, false, _||_}
 use mathlib.Core.List.{List, [], _∷_, _++_, map, Perm}
-use mathlib.Core.Logic.{_↔_, _≢_}
-use lib.ListN.{length, take, drop, replicate}
+use mathlib.Core.Logic.{_↔_, _≢_, _⊎_}
+use lib.ListN.{length, take, drop, replicate, getD}
 use lib.IntN.{ℤ, pos}
 use lib.Signed.{mag}
 use lib.Dec.{T}
@@ -17,15 +17,15 @@ use Rattle.format.specs.Structure.{Answer, passed, refused, mostRecords}
 use Rattle.format.specs.Tree.{Tree}
 use Rattle.format.specs.Claims.{Limits, Content, lengths, isStructural, Near}
 use Rattle.rules.specs.Tables.{Tables, languageSize, societySize, categorySize, rightTable}
-use Rattle.rules.specs.Values.{largestTolerance}
+use Rattle.rules.specs.Values.{fullShare, largestTolerance}
 use Rattle.rules.specs.Records.{any}
-use Rattle.rules.specs.Totals.{PR, writersTotal, is1, is3}
+use Rattle.rules.specs.Totals.{Right, PR, writersTotal, wholeTotal, is1, is3}
 use Rattle.rules.specs.Findings.{places}
 use Rattle.rules.specs.Works.{namedType, transactionFindings}
 use Rattle.rules.specs.Verdicts.{joined, findingBytes, fileFindings, fileVerdicts}
 use Rattle.rules.specs.Outcome.{Outcome, check, content, shortTolerance}
 use Rattle.rules.specs.First.{isGrave, ofEach, firstRejected, refusedAs, nothing, at, seen, first}
-use Rattle.rules.specs.Sheet.{Taken, sheetTolerance, answerTo, Missed, Sheet, sheetOf, mostFiles, add}
+use Rattle.rules.specs.Sheet.{Taken, sheetTolerance, answerTo, Missed, carries, Sheet, sheetOf, mostFiles, add}
 
 -- what is lent beside the file is in order: tolerance and tables (1, 2), and a buffer entry for each record, the text before a CR LF (11)
 pub record InOrder (tables : Tables) (t : ℕ) (f v g : Bytes) : Type 0 where
@@ -120,6 +120,19 @@ pub record Firsts : Type 0 where
       → ownSets tables t (content f) ≡ before ++ own ∷ after → any isGrave own ≡ false → first tables t f ≢ at (length before)
   -- its number is below that of the records
   pub near : (tables : Tables) (t : ℕ) (f : Bytes) (k : ℕ) → first tables t f ≡ at k → k < mostRecords
+
+-- ---- tolerances
+
+pub record Tolerances : Type 0 where
+  -- by which one a file is checked, of those that are not too large, decides nothing about its answer
+  pub same-answer : (tables : Tables) (s t : ℕ) (f v g : Bytes) → s ≤ largestTolerance → t ≤ largestTolerance
+      → check tables s f v g .answer ≡ check tables t f v g .answer
+  -- a smaller one finds on each record whatever a larger one finds, and no verdict is smaller for it
+  pub findings : (tables : Tables) (s t : ℕ) (d : Tree) (k n : ℕ) → s ≤ t → carries n (getD (fileFindings tables t d) k []) ≡ true
+      → carries n (getD (fileFindings tables s d) k []) ≡ true
+  pub verdicts : (tables : Tables) (s t : ℕ) (d : Tree) (k : ℕ) → s ≤ t → getD (fileVerdicts tables t d) k 0 ≤ getD (fileVerdicts tables s d) k 0
+  -- the short form, which has none, lets no hundredth pass: finding 3 is absent only where the shares of each right come to exactly 0 or all
+  pub exact : (ds : List Bytes) → is3 shortTolerance ds ≡ false ↔ ((right : Right) → (wholeTotal right ds ≡ 0) ⊎ (wholeTotal right ds ≡ fullShare))
 
 -- ---- small change among the writers
 

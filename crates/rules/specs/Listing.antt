@@ -73,6 +73,6 @@ mostInput = 65536
 abbrev pub listingTables : Tables
 listingTables = record { languages = ascii "ENFRDE"; societies = ascii "035044058"; categories = ascii "POPJAZSER" }
 
--- what it prints for an input
+-- what it prints for an input, which is checked with the largest tolerance and not in the short form (M-104)
 unfoldable pub listing : Bytes → Bytes
 listing f = cond (leb (length f) mostInput) (listed listingTables largestTolerance f) (spaced (ascii "INPUT TOO LONG" ∷ []))

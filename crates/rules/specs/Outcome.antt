@@ -49,6 +49,6 @@ check tables t f v g = record {
   findings = leftIn (answer tables t f (length v) (length g)) (findingBytes (fileFindings tables t (content f))) g;
 }
 
--- the tolerance of the short form
+-- the tolerance of the short form: none, since outgoing files get no slack (M-104)
 abbrev pub shortTolerance : ℕ
-shortTolerance = largestTolerance
+shortTolerance = 0

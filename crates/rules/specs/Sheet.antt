@@ -23,7 +23,7 @@ pub record Taken : Type 0 where
   pub tables : Tables
   pub file : Bytes
 
--- the tolerance of the check that decides
+-- the tolerance of the check that decides, which is not the short form's (M-104)
 abbrev pub sheetTolerance : ℕ
 sheetTolerance = largestTolerance
 

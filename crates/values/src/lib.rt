@@ -140,8 +140,10 @@ impl Share {
     // The publishers' half of performing rights.
     pub const HALF: u64 = 5000;
 
-    // The largest tolerance.
+    // The largest tolerance, and none.
     pub const SLACK: u64 = 6;
+
+    pub const EXACT: u64 = 0;
 
     // No share.
     pub fn zero() -> Share

@@ -12,7 +12,7 @@ put-outcome-requires c κs =
     let at1 = c .before .before .before .before .before in
     let start = at1 .before .before .before .before .before .before .before .before in (
       can-list listingTables largestTolerance (start .args .file .now) (start .args .verdicts .now) (start .args .findings .now)
-          (answerOf (at1 .check-short .result)) _ _ (at1 .check-short .ensures),
+          (answerOf (at1 .check .result)) _ _ (at1 .check .ensures),
       search needs,
     )
 
@@ -21,7 +21,7 @@ returns c =
     let at1 = c .before .before .before .before .before .before .before .before in
     let start = at1 .before .before .before .before .before .before .before .before in
     rw (is-listed listingTables largestTolerance (start .args .file .now) (start .args .verdicts .now) (start .args .findings .now)
-    (answerOf (at1 .check-short .result)) _ _ (at1 .check-short .ensures) (search needs) (search needs)) at
+    (answerOf (at1 .check .result)) _ _ (at1 .check .ensures) (search needs) (search needs)) at
     (c .before .before .put-outcome .ensures)
 
 pub put-checked-spec : {M : Type 1} → statement M
