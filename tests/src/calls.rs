@@ -19,9 +19,9 @@ use crate::reference::{self, findings, Answer, Tables};
 
 #[derive(Clone, Copy, Debug, PartialEq, Eq, PartialOrd, Ord)]
 pub enum Call {
-    /// The check in its short form.
+    /// The check in its short form, without tolerance.
     Check,
-    /// The check with a tolerance.
+    /// The check with a tolerance that is lent.
     Within,
     /// Numbering.
     Number,

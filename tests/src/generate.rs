@@ -12,7 +12,7 @@ pub mod values;
 pub mod works;
 
 use crate::calls::{Call, Guard, Request};
-use crate::reference::lent::LARGEST_TOLERANCE;
+use crate::reference::lent::{LARGEST_TOLERANCE, SHORT_TOLERANCE, USUAL_TOLERANCE};
 use crate::reference::sheet::BYTES;
 use damage::{Damage, Hand};
 use works::Lent;
@@ -135,7 +135,7 @@ impl Case {
             seed,
             kind,
             tables: lent::usual(),
-            tolerance: 6,
+            tolerance: LARGEST_TOLERANCE,
             verdicts: random.pattern(records),
             findings: random.pattern(8 * records),
             out: random.pattern(numbered),
@@ -153,16 +153,15 @@ impl Case {
         self.list.is_empty() && self.calls.iter().any(|call| call.takes_a_file())
     }
 
-    /// The tolerance that a call has: the short form of the check none but
-    /// the largest, and `first` that of the check that stands beside it.
-    pub fn tolerance_of(&self, call: Call) -> u64 {
-        let short = match call {
-            Call::First => self.calls.contains(&Call::Check) && !self.calls.contains(&Call::Within),
-            call => call == Call::Check,
-        };
-        match short {
-            true => LARGEST_TOLERANCE,
-            false => self.tolerance,
+    /// The tolerance that a call has: some their own, the check in its longer
+    /// form the one that is lent, and `first` that of the check beside it.
+    pub fn tolerance_of(&self, call: Call) -> Option<u64> {
+        match call {
+            Call::Check => Some(SHORT_TOLERANCE),
+            Call::Within => Some(self.tolerance),
+            Call::First => Some(of_checks(&self.calls, self.tolerance)),
+            Call::Sheet | Call::Listing => Some(USUAL_TOLERANCE),
+            _ => None,
         }
     }
 
@@ -188,18 +187,16 @@ impl Case {
             return request;
         }
         request.file = self.file.clone();
+        // The other calls have theirs themselves, or none.
+        if let (Call::Within | Call::First, Some(tolerance)) = (call, self.tolerance_of(call)) {
+            request.number = tolerance;
+        }
         match call {
             Call::Check | Call::Within => {
-                if call == Call::Within {
-                    request.number = self.tolerance;
-                }
                 request.tables = self.tables.clone();
                 request.buffers = [self.verdicts.clone(), self.findings.clone()];
             }
-            Call::First => {
-                request.number = self.tolerance_of(Call::First);
-                request.tables = self.tables.clone();
-            }
+            Call::First => request.tables = self.tables.clone(),
             Call::Sheet => {
                 request.tables = self.tables.clone();
                 request.buffers[0] = self.sheet.clone();
@@ -215,6 +212,15 @@ impl Case {
         let mut request = self.request(Call::Sheet, guard);
         request.buffers[0] = sheet;
         request
+    }
+}
+
+/// The tolerance of the check among these calls; where both forms are, the one
+/// that is lent, since it may be any.
+fn of_checks(calls: &[Call], lent: u64) -> u64 {
+    match calls.contains(&Call::Check) && !calls.contains(&Call::Within) {
+        true => SHORT_TOLERANCE,
+        false => lent,
     }
 }
 
@@ -285,12 +291,14 @@ pub fn case(seed: u64) -> Option<Case> {
     let mut random = Random::new(seed);
     let tables = lent::tables(&mut random);
     let tolerance = lent::tolerance(&mut random);
+    // Before the file, which is made for the tolerance of its check.
+    let checks = checks(&mut random);
     let lent = Lent {
         tables: &tables,
-        tolerance,
+        tolerance: of_checks(checks, tolerance),
     };
     let file = file(&kind, &lent, &mut random);
-    let calls = calls(&kind, &file, &mut random);
+    let calls = calls(checks, &kind, &file, &mut random);
     let mut case = Case::new(seed, kind.name(), file, &calls);
     case.tables = tables;
     case.tolerance = tolerance;
@@ -317,10 +325,21 @@ pub fn case(seed: u64) -> Option<Case> {
     Some(case)
 }
 
+/// The forms of the check that are compared for a file: mostly one of them. Of
+/// both, the answers are the same where no tolerance is lent, and may be others
+/// where one is.
+fn checks(random: &mut Random) -> &'static [Call] {
+    match random.below(16) {
+        0..=6 => &[Call::Check],
+        7..=13 => &[Call::Within],
+        _ => &[Call::Check, Call::Within],
+    }
+}
+
 /// The calls that are compared for a file; not all of them for each.
-fn calls(kind: &Kind, file: &[u8], random: &mut Random) -> Vec<Call> {
+fn calls(checks: &[Call], kind: &Kind, file: &[u8], random: &mut Random) -> Vec<Call> {
     let judged = matches!(kind, Kind::Works | Kind::Late | Kind::Right);
-    let mut calls = vec![random.of(&[Call::Check, Call::Within])];
+    let mut calls = checks.to_vec();
     for (call, times) in [
         (Call::Number, if judged { 6 } else { 2 }),
         (Call::Bits, 12),

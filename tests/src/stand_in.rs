@@ -4,6 +4,7 @@
 
 use std::slice::{from_raw_parts, from_raw_parts_mut};
 
+use tests::reference::lent::SHORT_TOLERANCE;
 use tests::reference::{self, findings, Answer, Tables};
 
 fn fault(name: &str) -> bool {
@@ -90,7 +91,7 @@ pub unsafe extern "C" fn cwr_check(
     findings_len: usize,
 ) -> u64 {
     cwr_check_within(
-        6,
+        SHORT_TOLERANCE,
         file,
         file_len,
         languages,

@@ -139,7 +139,7 @@ fn faults() -> Vec<String> {
 #[test]
 fn each_fault_is_found() {
     let (faults, next) = (faults(), AtomicUsize::new(0));
-    assert!(faults.len() >= 420, "{}", faults.len());
+    assert!(faults.len() >= 429, "{}", faults.len());
     // Each finding has one that begins with its number.
     for finding in 0..=46 {
         let own = |fault: &String| fault.starts_with(&format!("{finding}-"));
@@ -206,6 +206,36 @@ fn is_found(number: usize, fault: &str) {
     }
     println!("{fault}: found, {} \"{}\"", entry(&text, "call"), made.kind);
     std::fs::remove_dir_all(&found).expect("the directory");
+}
+
+/// A difference names the tolerance that its call has, lent or its own.
+#[test]
+fn tolerances_are_named() {
+    for (fault, call, tolerances) in [
+        ("short-form-6", "check", &["0"][..]),
+        ("short-form-refuses-1", "check", &["0"]),
+        (
+            "tolerance-always-0",
+            "within",
+            &["1", "2", "3", "4", "5", "6"],
+        ),
+        ("tolerance-7", "within", &["7"]),
+        (
+            "first-tolerance-always-6",
+            "first",
+            &["0", "1", "2", "3", "4", "5"],
+        ),
+        ("sheet-tolerance-0", "sheet", &["6"]),
+        ("listing-tolerance-0", "listing", &["6"]),
+    ] {
+        let (code, text) = compare(&["--only", call], &["--fault", fault], true);
+        assert_eq!(code, Some(1), "{fault}: {text}");
+        assert!(tolerances.contains(&entry(&text, "tolerance")), "{text}");
+    }
+    // Numbering has none.
+    let (code, text) = compare(&["--only", "number"], &["--fault", "copies"], false);
+    assert_eq!(code, Some(1), "{text}");
+    assert!(!text.contains("tolerance"), "{text}");
 }
 
 /// A difference of `first` tells what the library's own findings say.

@@ -20,6 +20,9 @@ pub fn head(case: &Case, call: Call, guard: Guard) -> String {
     }
     add("file", &write(case, "cwr", &case.file));
     add("bytes", &case.file.len().to_string());
+    if let Some(tolerance) = case.tolerance_of(call) {
+        add("tolerance", &tolerance.to_string());
+    }
     text
 }
 
@@ -49,9 +52,6 @@ pub fn of_replies(
     match call {
         Call::Bits => add("set", &format!("{:#x}", request.number)),
         Call::Check | Call::Within | Call::First | Call::Sheet => {
-            if matches!(call, Call::Within | Call::First) {
-                add("tolerance", &request.number.to_string());
-            }
             if call == Call::Sheet {
                 add("sheet", &write(case, "sheet", &request.buffers[0]));
             }

@@ -90,8 +90,11 @@ fn total(work: &mut Records, lent: &Lent, random: &mut Random) {
         first_writer += 1;
     }
     let (publishers, writers) = work.split_at_mut(first_writer);
+    // The limits of none and of the largest too, whatever the tolerance: the
+    // file goes into sheets, and may be listed or checked in the other form.
     let t = lent.tolerance as isize;
-    let off = |random: &mut Random| random.of(&[0, t, t + 1, -t, -t - 1, 1, -1, 3, 7]);
+    let limits = [0, t, t + 1, -t, -t - 1, 1, -1, 3, 6, 7, -6, -7];
+    let off = |random: &mut Random| random.of(&limits);
     if random.one_in(3) {
         // Both near their half of PR.
         let halves = [off(random), off(random)].map(|off| (5_000 + off) as usize);
@@ -110,7 +113,11 @@ fn total(work: &mut Records, lent: &Lent, random: &mut Random) {
     match random.below(4) {
         0 | 1 => {
             // Together near the full share.
-            let together = 10_000 + random.of(&[0, 0, t, -t, t + 1, -t - 1]);
+            let off = match random.one_in(3) {
+                true => 0,
+                false => off(random),
+            };
+            let together = 10_000 + off;
             let rest = (together - given as isize).max(0) as usize;
             give(other, right, rest, random);
         }

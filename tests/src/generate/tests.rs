@@ -1,5 +1,7 @@
 //! The made files are what their kinds say.
 
+mod tolerances;
+
 use std::collections::{HashMap, HashSet};
 
 use super::damage::{all, FAMILIES};
@@ -87,7 +89,9 @@ fn works_are_nearly_right() {
         .filter(|&seed| matches!(kind(seed), Kind::Works))
     {
         let case = case(seed).unwrap();
-        let reply = expected(&case.request(Call::Within, Guard::None));
+        // In the form that it is made for.
+        let check = case.calls.iter().rfind(|call| call.is_check()).unwrap();
+        let reply = expected(&case.request(*check, Guard::None));
         if reply.refusal() != 0 {
             continue;
         }
@@ -494,7 +498,7 @@ fn first_of_every_file() {
         assert_eq!((&request.file, &request.tables), (&case.file, &case.tables));
         let check = case.calls.iter().rfind(|call| call.is_check());
         match check {
-            Some(Call::Check) => assert_eq!(request.number, 6),
+            Some(Call::Check) => assert_eq!(request.number, 0),
             _ => assert_eq!(request.number, case.tolerance),
         }
     }
@@ -631,7 +635,7 @@ fn late_files() {
             [finding, at] if finding.starts_with("finding ") => {
                 let finding: u32 = finding["finding ".len()..].parse().unwrap();
                 let mut request = case.request(Call::Within, Guard::None);
-                request.number = 6;
+                request.number = case.tolerance_of(Call::First).unwrap();
                 let sets = transactions(&case.file, &expected(&request));
                 // That finding alone in that one alone.
                 let at: usize = at.parse().unwrap();
@@ -647,8 +651,11 @@ fn late_files() {
                 true => later.parse().unwrap(),
                 false => at.parse().unwrap(),
             },
-            [tolerance, short] if tolerance.starts_with("tolerance ") => {
-                let tolerance: u64 = tolerance["tolerance ".len()..].parse().unwrap();
+            [form, short] if short.ends_with(" short") => {
+                let tolerance: u64 = match form.strip_prefix("tolerance ") {
+                    Some(tolerance) => tolerance.parse().unwrap(),
+                    None => 0,
+                };
                 let short: u64 = short[..1].parse().unwrap();
                 match tolerance {
                     7 => 1 << 32,

@@ -7,8 +7,9 @@ use super::values::{right_iswc, writable, DESIGNATIONS};
 use super::{changes, Random};
 use crate::reference::lines::Line;
 use crate::reference::types::find;
+use crate::reference::values::digits;
 use crate::reference::verdicts::level;
-use crate::reference::{findings, Tables};
+use crate::reference::{field, findings, Tables};
 
 pub type Records = Vec<Vec<u8>>;
 
@@ -187,6 +188,19 @@ pub fn set_shares(record: &mut [u8], shares: [usize; 3]) {
         let start = share_start(record, right).expect("a record with shares");
         put(record, start, &format!("{share:05}"));
     }
+}
+
+/// Gives the first writer of a work what the others leave of each right, so
+/// that no tolerance matters.
+pub fn complete(work: &mut Records) {
+    let is_writer = |record: &Vec<u8>| matches!(&record[..3], b"SWR" | b"OWR");
+    let writer = work.iter().position(is_writer).expect("a writer");
+    set_shares(&mut work[writer], [0; 3]);
+    let rest = [0, 1, 2].map(|right| {
+        let share = |record: &Vec<u8>| digits(field(record, share_start(record, right)?, 5));
+        10_000 - work.iter().filter_map(share).sum::<u64>() as usize
+    });
+    set_shares(&mut work[writer], rest);
 }
 
 /// A record of a type, blank but for these texts.

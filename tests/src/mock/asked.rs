@@ -3,6 +3,7 @@
 use std::ops::Deref;
 
 use tests::calls::{expected, Call, Reply, Request};
+use tests::reference::lent::SHORT_TOLERANCE;
 use tests::reference::lines::{lines, Line};
 use tests::reference::types::{find, Class};
 use tests::reference::verdicts::verdicts;
@@ -82,7 +83,7 @@ impl Asked {
     pub fn tolerance(&self) -> u64 {
         match self.call {
             Call::Within => self.number,
-            _ => 6,
+            _ => SHORT_TOLERANCE,
         }
     }
 

@@ -9,12 +9,31 @@ use tests::reference::types::Class;
 use tests::reference::values::in_table;
 use tests::reference::verdicts::own;
 
-use crate::asked::{classes, with_place, Asked};
+use crate::asked::{classes, with_place, write_sets, Asked};
 use crate::Fault;
 
 /// The number of records, where a check has passed.
 fn judged_records(asked: &Asked, reply: &Reply) -> Option<usize> {
     (asked.call.is_check() && reply.refusal() == 0).then_some(reply.packed as usize)
+}
+
+/// The right answer, but that the short form judges these findings with this
+/// tolerance.
+fn short_form(asked: &Asked, tolerance: u64, findings: &[u32]) -> Reply {
+    let mut right = asked.right();
+    if asked.call != Call::Check || right.refusal() != 0 {
+        return right;
+    }
+    let other = asked.with(|request| {
+        request.call = Call::Within;
+        request.number = tolerance;
+    });
+    let taken: u64 = findings.iter().map(|finding| 1 << finding).sum();
+    let classes = classes(&lines(&asked.file));
+    let set = |record| right.set(record) & !taken | other.set(record) & taken;
+    let sets: Vec<u64> = (0..classes.len()).map(set).collect();
+    write_sets(&mut right, &classes, &sets);
+    right
 }
 
 /// The right answer, but that a code is looked up otherwise: the findings 17,
@@ -66,23 +85,39 @@ pub const FAULTS: &[Fault] = &[
         Call::Within => asked.with(|request| request.number &= 0xff),
         _ => asked.right(),
     }),
-    ("short-form-0", |asked| match asked.call {
-        Call::Check => asked.with(|request| {
-            request.call = Call::Within;
-            request.number = 0;
-        }),
-        _ => asked.right(),
+    // As before M-104, with the least there is, and as before in one finding
+    // alone.
+    ("short-form-6", |asked| short_form(asked, 6, &[1, 2, 3])),
+    ("short-form-1", |asked| short_form(asked, 1, &[1, 2, 3])),
+    ("short-form-6-in-1", |asked| short_form(asked, 6, &[1])),
+    ("short-form-6-in-2", |asked| short_form(asked, 6, &[2])),
+    ("short-form-6-in-3", |asked| short_form(asked, 6, &[3])),
+    ("short-form-refuses-1", |asked| {
+        // What some tolerance would let through, as if one were asked for.
+        let right = asked.right();
+        match right == short_form(asked, 6, &[1, 2, 3]) {
+            true => right,
+            false => asked.refused(1, 0),
+        }
     }),
-    ("short-form-5", |asked| match asked.call {
-        Call::Check => asked.with(|request| {
-            request.call = Call::Within;
-            request.number = 5;
-        }),
-        _ => asked.right(),
+    ("short-form-refuses-1-for-2", |asked| {
+        // The first thing that is looked at has the first number.
+        let right = asked.right();
+        match (asked.call, right.refusal()) {
+            (Call::Check, 2) => asked.refused(1, 0),
+            _ => right,
+        }
     }),
     ("tolerance-always-6", |asked| {
         match (asked.call, asked.number) {
             (Call::Within, 0..=5) => asked.with(|request| request.number = 6),
+            _ => asked.right(),
+        }
+    }),
+    ("tolerance-always-0", |asked| {
+        // As the short form.
+        match (asked.call, asked.number) {
+            (Call::Within, 1..=6) => asked.with(|request| request.number = 0),
             _ => asked.right(),
         }
     }),

@@ -1,6 +1,7 @@
 //! Faults of the listing program.
 
 use tests::reference::listing;
+use tests::reference::listing::listing_within;
 
 use crate::ListingFault;
 
@@ -70,6 +71,8 @@ pub const FAULTS: &[ListingFault] = &[
     ("listing-65537", |input| {
         listing(&input[..input.len().min(65_536)])
     }),
+    ("listing-tolerance-0", |input| listing_within(0, input)),
+    ("listing-tolerance-5", |input| listing_within(5, input)),
     ("listing-empty", |input| match input {
         [] => b"REFUSED 4 0\n".to_vec(),
         _ => listing(input),

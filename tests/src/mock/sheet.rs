@@ -158,6 +158,21 @@ fn totals_without(asked: &Asked, types: &[&[u8; 3]]) -> Reply {
     })
 }
 
+/// Its check has this tolerance.
+fn checked_within(asked: &Asked, tolerance: u64) -> Reply {
+    as_if(asked, |asked, judged| {
+        let records = judged.sets.len();
+        let checked = expected(&Request {
+            call: Call::Within,
+            number: tolerance,
+            buffers: [vec![0; records], vec![0; 8 * records]],
+            ..asked.0.clone()
+        });
+        judged.sets = (0..records).map(|record| checked.set(record)).collect();
+        judged.verdicts.clone_from(&checked.buffers[0]);
+    })
+}
+
 /// Only the figures of those transactions for which this holds, by the verdict
 /// of the header.
 fn figures_of(asked: &Asked, holds: fn(u8) -> bool) -> Reply {
@@ -632,20 +647,9 @@ pub const FAULTS: &[Fault] = &[
             }
         })
     }),
-    ("sheet-tolerance-0", |asked| {
-        // Its check has none.
-        as_if(asked, |asked, judged| {
-            let records = judged.sets.len();
-            let checked = expected(&Request {
-                call: Call::Within,
-                number: 0,
-                buffers: [vec![0; records], vec![0; 8 * records]],
-                ..asked.0.clone()
-            });
-            judged.sets = (0..records).map(|record| checked.set(record)).collect();
-            judged.verdicts.clone_from(&checked.buffers[0]);
-        })
-    }),
+    // As the short form of the check, and one less than it has itself.
+    ("sheet-tolerance-0", |asked| checked_within(asked, 0)),
+    ("sheet-tolerance-5", |asked| checked_within(asked, 5)),
     // How many files there can be, and how long it is.
     ("sheet-4097-files", |asked| {
         full_if(asked, |files| files > MOST_FILES)

@@ -1,7 +1,7 @@
 //! The check: refusals 1 to 11, then verdicts and findings.
 
 use super::findings::sets;
-use super::lent::{refusal_1, refusal_11, refusal_2, Tables, LARGEST_TOLERANCE};
+use super::lent::{refusal_1, refusal_11, refusal_2, Tables, SHORT_TOLERANCE};
 use super::numbers::counts;
 use super::structure::{self, Structure};
 use super::verdicts;
@@ -30,14 +30,14 @@ pub fn check(
     answer(Ok(counts(&classes)))
 }
 
-/// The check with the largest tolerance.
+/// The check without tolerance. That is always allowed, so there is no 1.
 pub fn check_short(
     file: &[u8],
     tables: &Tables,
     out_verdicts: &mut [u8],
     out_findings: &mut [u8],
 ) -> Answer {
-    check(LARGEST_TOLERANCE, file, tables, out_verdicts, out_findings)
+    check(SHORT_TOLERANCE, file, tables, out_verdicts, out_findings)
 }
 
 /// What is lent and needs no file comes first, room for the answer last.

@@ -3,6 +3,14 @@
 use super::{refused, Refusal};
 
 pub const LARGEST_TOLERANCE: u64 = 6;
+
+/// That of the short form of the check: what goes out has none (M-104).
+pub const SHORT_TOLERANCE: u64 = 0;
+
+/// That of the calls which nobody lends one to and which M-104 leaves as they
+/// were, the listing program and the sheet.
+pub const USUAL_TOLERANCE: u64 = LARGEST_TOLERANCE;
+
 pub const MOST_ENTRIES: usize = 1024;
 
 /// The three lookup tables, entry after entry.

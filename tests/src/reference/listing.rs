@@ -1,8 +1,8 @@
 //! The listing program: what it prints for an input.
 
-use super::check::check_short;
+use super::check::check;
 use super::findings::{count, lowest};
-use super::lent::Tables;
+use super::lent::{Tables, USUAL_TOLERANCE};
 use super::lines::lines;
 use super::Answer;
 
@@ -16,13 +16,18 @@ pub const TABLES: Tables = Tables {
 };
 
 pub fn listing(input: &[u8]) -> Vec<u8> {
+    listing_within(USUAL_TOLERANCE, input)
+}
+
+/// The same with another tolerance, to have a listing program that is wrong.
+pub fn listing_within(tolerance: u64, input: &[u8]) -> Vec<u8> {
     if input.len() > LONGEST_INPUT {
         return b"INPUT TOO LONG\n".to_vec();
     }
     // A record ends with two bytes, so there are fewer records than bytes.
     let mut verdicts = vec![0; input.len()];
     let mut findings = vec![0; 8 * input.len()];
-    match check_short(input, &TABLES, &mut verdicts, &mut findings) {
+    match check(tolerance, input, &TABLES, &mut verdicts, &mut findings) {
         Answer::Refused { number, place } => format!("REFUSED {number} {place}\n").into_bytes(),
         Answer::Passed {
             groups,

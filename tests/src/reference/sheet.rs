@@ -6,7 +6,7 @@ use std::slice::from_ref;
 
 use super::findings::transaction::FULL;
 use super::findings::{of_records, transactions, Transaction};
-use super::lent::{refusal_2, Tables, LARGEST_TOLERANCE};
+use super::lent::{refusal_2, Tables, USUAL_TOLERANCE};
 use super::numbers::counts;
 use super::structure::{self, Structure};
 use super::verdicts::verdicts;
@@ -35,12 +35,12 @@ pub struct Judged {
 /// A file of the list.
 pub type Taken = Result<Judged, Refusal>;
 
-/// Checks as the short form does. Nothing is written for each record, so no
-/// room for it can be missing: no 11.
+/// Checks with a tolerance of its own, which is always allowed: no 1. Nothing
+/// is written for each record, so no room for it can be missing: no 11.
 pub fn judge(file: &[u8], tables: &Tables) -> Taken {
     refusal_2(tables)?;
     let Structure { lines, classes } = structure::refusals_3_to_10(file)?;
-    let transactions = transactions(&lines, &classes, *tables, LARGEST_TOLERANCE);
+    let transactions = transactions(&lines, &classes, *tables, USUAL_TOLERANCE);
     let sets = of_records(lines.len(), &transactions);
     let total = |(_, transaction): &(usize, Transaction)| transaction.totals();
     Ok(Judged {

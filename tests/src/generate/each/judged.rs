@@ -9,9 +9,10 @@ use crate::generate::values::{
     PUBLISHER_TYPES, SEQUENCES, SHARES, TAXES,
 };
 use crate::generate::works::{
-    file, of, plain_work, publisher, set_shares, share_start, writer, Records,
+    complete, file, of, plain_work, publisher, set_shares, share_start, writer, Records,
 };
 use crate::generate::{join, Case};
+use crate::reference::listing::LONGEST_INPUT;
 use crate::reference::types::{Class, TYPES};
 
 pub fn all(all: &mut Vec<Case>) {
@@ -34,15 +35,29 @@ pub fn all(all: &mut Vec<Case>) {
     groups(all);
 }
 
-/// Adds files of works, so many in each; with this tolerance.
-fn add(all: &mut Vec<Case>, kind: &str, tolerance: u64, works: Vec<Records>) {
+/// Adds files of works, so many in each, which are about something else than
+/// the tolerance: one form of the check for each, the listing program for some.
+fn add(all: &mut Vec<Case>, kind: &str, works: Vec<Records>) {
     for (part, works) in works.chunks(16).enumerate() {
         let records = file("NWR", works.to_vec());
-        // The listing program for some.
-        let calls: &[Call] = match (tolerance, all.len() % 8) {
-            (6, 0) => &[Call::Check, Call::Listing],
-            (6, 1..=4) => &[Call::Check],
+        let calls: &[Call] = match all.len() % 8 {
+            0 => &[Call::Check, Call::Listing],
+            1..=4 => &[Call::Check],
             _ => &[Call::Within],
+        };
+        let kind = format!("each {kind}, part {part}");
+        add_with(all, kind, join(&records), calls);
+    }
+}
+
+/// The same of works that are about it: both forms of the check, the longer one
+/// with this tolerance.
+fn add_within(all: &mut Vec<Case>, kind: &str, tolerance: u64, works: Vec<Records>) {
+    for (part, works) in works.chunks(16).enumerate() {
+        let records = file("NWR", works.to_vec());
+        let calls: &[Call] = match all.len() % 8 {
+            0 => &[Call::Check, Call::Within, Call::Listing],
+            _ => &[Call::Check, Call::Within],
         };
         let kind = format!("each {kind}, tolerance {tolerance}, part {part}");
         add_with(all, kind, join(&records), calls).tolerance = tolerance;
@@ -68,7 +83,7 @@ fn header_fields(all: &mut Vec<Case>) {
             }
         }
     }
-    add(all, "date", 6, works);
+    add(all, "date", works);
 
     let mut works = Vec::new();
     for duration in DURATIONS {
@@ -82,7 +97,7 @@ fn header_fields(all: &mut Vec<Case>) {
             }
         }
     }
-    add(all, "duration", 6, works);
+    add(all, "duration", works);
 
     let mut works = Vec::new();
     for base in ["T0345246801", "T0030749586", "T0000000009", "T9999999994"] {
@@ -94,7 +109,7 @@ fn header_fields(all: &mut Vec<Case>) {
             }
         }
     }
-    add(all, "ISWC", 6, works);
+    add(all, "ISWC", works);
 
     let mut works = Vec::new();
     for code in [
@@ -107,7 +122,7 @@ fn header_fields(all: &mut Vec<Case>) {
     ] {
         works.push(headed(127, code));
     }
-    add(all, "code", 6, works);
+    add(all, "code", works);
 }
 
 /// Each field blank between entered neighbours, then entered in its first and
@@ -150,7 +165,7 @@ fn edges(all: &mut Vec<Case>) {
                 works.push(work);
             }
         }
-        add(all, &format!("edge of {name}"), 6, works);
+        add(all, &format!("edge of {name}"), works);
     }
 }
 
@@ -172,34 +187,42 @@ fn shares(all: &mut Vec<Case>) {
                 works.push(work);
             }
         }
-        add(all, &format!("share of {name}"), 6, works);
+        add_within(all, &format!("share of {name}"), 6, works);
     }
 }
 
-/// Totals at each limit and one off it: of publishers, of writers, of all.
+/// Works with a total of a right so far from a limit: of publishers, of writers,
+/// of all.
+fn off_by(right: usize, near: usize, off: isize) -> [Records; 4] {
+    let one = near.saturating_add_signed(off);
+    let rest = 10_000usize.saturating_sub(one);
+    let pair = |of_publisher: usize, of_writer: usize| {
+        let mut work = plain_work();
+        let mut shares = [0; 3];
+        shares[right] = of_writer;
+        set_shares(&mut work[1], shares);
+        shares[right] = of_publisher;
+        work.insert(1, publisher("SPU", "E ", shares));
+        work
+    };
+    [
+        pair(one, rest),
+        pair(rest, one),
+        pair(0, one),
+        pair(5000, (one + 5000).saturating_sub(near)),
+    ]
+}
+
+/// Totals at each limit and one off it, for each tolerance; the short form has
+/// those of all.
 fn totals(all: &mut Vec<Case>) {
+    let limits = || (0..3).flat_map(|right| [0, 5000, 10_000].map(|near| (right, near)));
     for tolerance in 0..=6 {
-        let mut works = Vec::new();
         let t = tolerance as isize;
-        for right in 0..3 {
-            for near in [0, 5000, 10_000] {
-                for off in [-t - 1, -t, -1, 0, 1, t, t + 1] {
-                    let one = (near + off).max(0) as usize;
-                    let rest = 10_000usize.saturating_sub(one);
-                    let pair = |of_publisher: usize, of_writer: usize| {
-                        let mut work = plain_work();
-                        let mut shares = [0; 3];
-                        shares[right] = of_writer;
-                        set_shares(&mut work[1], shares);
-                        shares[right] = of_publisher;
-                        work.insert(1, publisher("SPU", "E ", shares));
-                        work
-                    };
-                    works.push(pair(one, rest));
-                    works.push(pair(rest, one));
-                    works.push(pair(0, one));
-                    works.push(pair(5000, (one + 5000).saturating_sub(near as usize)));
-                }
+        let mut works = Vec::new();
+        for (right, near) in limits() {
+            for off in [-t - 1, -t, -1, 0, 1, t, t + 1] {
+                works.extend(off_by(right, near, off));
             }
         }
         // Writers' PR, of one and of two together; without a publisher, and
@@ -219,7 +242,25 @@ fn totals(all: &mut Vec<Case>) {
                 }
             }
         }
-        add(all, "total", tolerance, works);
+        add_within(all, "total", tolerance, works);
+    }
+    // The listing program has a tolerance of its own. In few files, since it is
+    // started for each: as many works as it still reads.
+    let mut works = Vec::new();
+    for (right, near) in limits() {
+        for off in -7..=7 {
+            works.extend(off_by(right, near, off));
+        }
+    }
+    for (part, works) in works.chunks(100).enumerate() {
+        let input = join(&file("NWR", works.to_vec()));
+        assert!(input.len() <= LONGEST_INPUT);
+        add_with(
+            all,
+            format!("each total listed, part {part}"),
+            input,
+            &[Call::Listing],
+        );
     }
 }
 
@@ -256,7 +297,7 @@ fn wrapped(all: &mut Vec<Case>) {
             }
         }
     }
-    add(all, "wrapped total", 6, works);
+    add_within(all, "wrapped total", 6, works);
 }
 
 /// More records of a kind than a byte counts.
@@ -275,7 +316,7 @@ fn many(all: &mut Vec<Case>) {
                 work.len()
             };
             work.splice(at..at, vec![record; number]);
-            add(all, &format!("count of {number}"), 6, vec![work]);
+            add(all, &format!("count of {number}"), vec![work]);
         }
     }
 }
@@ -313,7 +354,7 @@ fn bytes(all: &mut Vec<Case>) {
             }
         }
     }
-    add(all, "byte", 6, works);
+    add(all, "byte", works);
 }
 
 fn designations(all: &mut Vec<Case>) {
@@ -333,12 +374,12 @@ fn designations(all: &mut Vec<Case>) {
             }
         }
     }
-    add(all, "designation", 6, works);
+    add(all, "designation", works);
     let mut without = plain_work();
     without.pop();
     let mut modified = without.clone();
     put(&mut modified[0], 143, "MOD");
-    add(all, "work without writers", 6, vec![without, modified]);
+    add(all, "work without writers", vec![without, modified]);
 }
 
 /// Each type first in its chain and after others, with a share and without.
@@ -356,6 +397,7 @@ fn publisher_types(all: &mut Vec<Case>) {
                             let shares = [earlier, 0, 0];
                             work.insert(1, publisher(name.trim(), kind, shares));
                         }
+                        complete(&mut work);
                         works.push(work);
                     }
                 }
@@ -363,7 +405,6 @@ fn publisher_types(all: &mut Vec<Case>) {
             add(
                 all,
                 &format!("publisher type of {name}, share {share}"),
-                6,
                 works,
             );
         }
@@ -372,19 +413,23 @@ fn publisher_types(all: &mut Vec<Case>) {
 
 fn indicators(all: &mut Vec<Case>) {
     let mut works = Vec::new();
+    let published = |name: &str| {
+        let mut work = plain_work();
+        work.insert(1, publisher(name, "E ", [0, 0, 1]));
+        complete(&mut work);
+        work
+    };
     for name in ["SPU", "OPU"] {
         for title in ["B", " "] {
             for indicator in INDICATORS {
-                let mut work = plain_work();
-                work.insert(1, publisher(name, "E ", [0, 0, 1]));
+                let mut work = published(name);
                 put(&mut work[1], 31, title);
                 put(&mut work[1], 76, indicator);
                 works.push(work);
             }
         }
         for tax in TAXES {
-            let mut work = plain_work();
-            work.insert(1, publisher(name, "E ", [0, 0, 1]));
+            let mut work = published(name);
             put(&mut work[1], 79, tax);
             works.push(work);
         }
@@ -392,14 +437,13 @@ fn indicators(all: &mut Vec<Case>) {
             for society in [
                 "035", "044", "058", "350", "503", "   ", "35 ", " 35", "999",
             ] {
-                let mut work = plain_work();
-                work.insert(1, publisher(name, "E ", [0, 0, 1]));
+                let mut work = published(name);
                 put(&mut work[1], start, society);
                 works.push(work);
             }
         }
     }
-    add(all, "indicator, tax number and society", 6, works);
+    add(all, "indicator, tax number and society", works);
 }
 
 /// A work of publishers: name, sequence number, type and MR share.
@@ -410,6 +454,7 @@ fn chain(publishers: &[(&str, &str, &str, usize)]) -> Records {
         put(&mut record, 20, sequence);
         work.insert(1, record);
     }
+    complete(&mut work);
     work
 }
 
@@ -420,7 +465,7 @@ fn sequences(all: &mut Vec<Case>) {
             works.push(chain(&[("SPU", one, "E ", 1), ("OPU", other, "E ", 1)]));
         }
     }
-    add(all, "sequence", 6, works);
+    add(all, "sequence", works);
     // All numbers in a row, and past the last.
     let mut texts: Vec<_> = (1..=99).map(|number| format!("{number:02}")).collect();
     texts.extend(["99", "00", "01", "0A", "01", "02"].map(String::from));
@@ -428,7 +473,7 @@ fn sequences(all: &mut Vec<Case>) {
         .iter()
         .map(|text| ("SPU", text.as_str(), "E ", 1))
         .collect();
-    add(all, "sequence in a row", 6, vec![chain(&row)]);
+    add(all, "sequence in a row", vec![chain(&row)]);
 }
 
 /// Chains by their number, together or not.
@@ -458,7 +503,7 @@ fn chains(all: &mut Vec<Case>) {
             }
         }
     }
-    add(all, "chain", 6, works);
+    add(all, "chain", works);
 }
 
 fn recordings(all: &mut Vec<Case>) {
@@ -476,7 +521,7 @@ fn recordings(all: &mut Vec<Case>) {
             }
         }
     }
-    add(all, "recording", 6, works);
+    add(all, "recording", works);
 }
 
 /// EWT and VER none to three times, and titles blank.
@@ -492,7 +537,7 @@ fn titles(all: &mut Vec<Case>) {
             }
         }
     }
-    add(all, "EWT and VER", 6, works);
+    add(all, "EWT and VER", works);
 }
 
 /// The types of details, by the order of the table.
@@ -512,7 +557,7 @@ fn orders(all: &mut Vec<Case>) {
             works.push(work);
         }
     }
-    add(all, "order of two", 6, works);
+    add(all, "order of two", works);
 }
 
 /// After each leader each two of the types that follow leaders.
@@ -552,7 +597,7 @@ fn leaders(all: &mut Vec<Case>) {
             works.push(work);
         }
     }
-    add(all, "order after a leader", 6, works);
+    add(all, "order after a leader", works);
 }
 
 /// Groups of works of one type and the other.

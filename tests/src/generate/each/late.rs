@@ -4,7 +4,7 @@
 use super::add_with;
 use crate::calls::Call;
 use crate::generate::right::{number, put};
-use crate::generate::works::{of, plain_work, publisher, set_shares, writer, Records};
+use crate::generate::works::{complete, of, plain_work, publisher, set_shares, writer, Records};
 use crate::generate::{join, Case, Random};
 
 pub fn all(all: &mut Vec<Case>) {
@@ -35,6 +35,7 @@ const REJECTED: [Form; 7] = [
         put(&mut publisher, 22, " ");
         put(&mut publisher, 124, "00001");
         work.insert(1, publisher);
+        complete(work);
     }),
     ("FR and TR on the header", |work| {
         put(&mut work[0], 96, "X");
@@ -110,11 +111,14 @@ fn one(all: &mut Vec<Case>) {
     }
 }
 
-/// Each finding alone in a work; but 4 never comes without 5.
-const FINDINGS: [(u32, fn(&mut Records)); 46] = [
+/// A finding, and the change of the plain work that brings it alone.
+type Alone = (u32, fn(&mut Records));
+
+/// Each finding alone in a work, whatever the tolerance; but 4 never comes
+/// without 5, nor 2 without 1 or 3 where there is none.
+const FINDINGS: [Alone; 45] = [
     (0, |work| put(&mut work[0], 1, "REV")),
-    (1, |work| owned(work, [3000, 2007], 4994)),
-    (2, |work| owned(work, [3000, 2006], 4993)),
+    (1, |work| owned(work, [5000, 5000], 0)),
     (3, |work| set_shares(&mut work[1], [10_000, 9_000, 10_000])),
     (5, |work| put(&mut work[1], 105, "AR")),
     (6, |work| put(&mut work[0], 143, "MOD")),
@@ -184,6 +188,12 @@ const FINDINGS: [(u32, fn(&mut Records)); 46] = [
     }),
 ];
 
+/// Alone only with the largest tolerance, and just beyond it.
+const BEYOND: [Alone; 2] = [
+    (1, |work| owned(work, [3000, 2007], 4994)),
+    (2, |work| owned(work, [3000, 2006], 4993)),
+];
+
 /// Two publishers' PR, and the writer's.
 fn owned(work: &mut Records, publishers: [usize; 2], of_writer: usize) {
     let [one, mut other] = publishers.map(|share| publisher("OPU", "E ", [share, 0, 0]));
@@ -197,6 +207,7 @@ fn published(work: &mut Records, name: &str, start: usize, text: &str) {
     let mut publisher = publisher(name, "E ", [0, 1, 0]);
     put(&mut publisher, start, text);
     work.insert(1, publisher);
+    complete(work);
 }
 
 /// A publisher in a chain that an SPU of type E has begun.
@@ -217,6 +228,15 @@ fn findings(all: &mut Vec<Case>) {
                 format!("finding {finding}, {at}"),
                 &grouped(&GROUPS, works),
             );
+        }
+    }
+    for (finding, change) in BEYOND {
+        for at in 0..number {
+            let mut works = works(number, &[]);
+            change(&mut works[at]);
+            let kind = format!("each late: finding {finding}, {at}");
+            let file = join(&grouped(&GROUPS, works));
+            add_with(all, kind, file, &[Call::Within]);
         }
     }
 }
@@ -241,16 +261,19 @@ fn two(all: &mut Vec<Case>) {
     }
 }
 
-/// Each tolerance with each sum near the full share, in a later group.
+/// Each tolerance with each sum near the full share, in a later group; and the
+/// short form.
 fn within(all: &mut Vec<Case>) {
-    for tolerance in 0..=7 {
-        for off in 0..=7 {
-            let mut works = works(3, &[]);
-            set_shares(&mut works[2][1], [10_000 - off; 3]);
+    for off in 0..=7 {
+        let mut works = works(3, &[]);
+        set_shares(&mut works[2][1], [10_000 - off; 3]);
+        let file = join(&grouped(&[1, 2], works));
+        for tolerance in 0..=7 {
             let kind = format!("each late: tolerance {tolerance}, {off} short");
-            let file = join(&grouped(&[1, 2], works));
-            add_with(all, kind, file, &[Call::Within]).tolerance = tolerance;
+            add_with(all, kind, file.clone(), &[Call::Within]).tolerance = tolerance;
         }
+        let kind = format!("each late: short form, {off} short");
+        add_with(all, kind, file, &[Call::Check]);
     }
 }
 

@@ -4,7 +4,7 @@ use super::{add_with, FIRST};
 use crate::calls::Call;
 use crate::generate::lent::SIZES;
 use crate::generate::right::number;
-use crate::generate::works::{file, of, plain_work};
+use crate::generate::works::{file, of, plain_work, set_shares};
 use crate::generate::{join, Case, Random};
 
 pub fn all(all: &mut Vec<Case>) {
@@ -17,6 +17,13 @@ pub fn all(all: &mut Vec<Case>) {
 
 fn file_a() -> Vec<u8> {
     join(&file("NWR", vec![plain_work()]))
+}
+
+/// File A, but that one hundredth of each right is missing.
+fn one_short() -> Vec<u8> {
+    let mut work = plain_work();
+    set_shares(&mut work[1], [9_999; 3]);
+    join(&file("NWR", vec![work]))
 }
 
 const CHECKS: [Call; 2] = [Call::Check, Call::Within];
@@ -76,7 +83,12 @@ fn tables(all: &mut Vec<Case>) {
 fn tolerances(all: &mut Vec<Case>) {
     let small = (0..=12).chain([255, 256, 257, 262, 263, 65_536, 65_542]);
     for tolerance in small.chain([1 << 31, 1 << 32, (1 << 32) + 6, 1 << 63, u64::MAX]) {
-        for (words, file) in [("", file_a()), (", no file", Vec::new())] {
+        // With the last, the forms differ where the tolerance is any but 0.
+        for (words, file) in [
+            ("", file_a()),
+            (", no file", Vec::new()),
+            (", one short", one_short()),
+        ] {
             let kind = format!("each tolerance: {tolerance}{words}");
             add_with(all, kind, file, &CHECKS).tolerance = tolerance;
         }

@@ -1,7 +1,6 @@
 //! The first work to look at.
 
 use super::*;
-use crate::reference::first::{first_rejected, First};
 use First::{At, None as Nothing};
 
 type Work = Vec<Vec<u8>>;

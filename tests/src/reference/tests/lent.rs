@@ -1,7 +1,6 @@
 //! Refusals 1, 2 and 11, and the bytes that are written.
 
 use super::*;
-use crate::reference::check_short;
 
 fn answer(tolerance: u64, tables: &Tables, file: &[u8]) -> Answer {
     check(tolerance, file, tables, &mut [0; 6], &mut [0; 48])
@@ -135,21 +134,4 @@ fn sets_least_significant_byte_first() {
     assert_eq!(verdicts, [0, 0, 3, 3, 3, 0, 0]);
     assert_eq!(findings[24..32], [0, 0, 0, 1, 0, 0, 0, 0]);
     assert_eq!(findings[32..40], [0, 0, 0, 0, 1 << 6, 0, 0, 0]);
-}
-
-#[test]
-fn short_form() {
-    let work = |share: u32| {
-        let file = join(&file_of(&[nwr(""), writer("SWR", [share; 3], &[])]));
-        let mut numbered = vec![0; file.len()];
-        numbering(&file, &mut numbered);
-        let mut findings = [9; 48];
-        let answer = check_short(&numbered, &TABLES, &mut [0; 6], &mut findings);
-        assert_eq!(answer, passes(1, 1, 6));
-        findings[16]
-    };
-    assert_eq!(
-        (work(9994), work(9993), work(10_006), work(10_007)),
-        (0, 8, 0, 12)
-    );
 }

@@ -1,7 +1,6 @@
 //! The listing.
 
 use super::*;
-use crate::reference::listing;
 
 #[test]
 fn file_a_to_the_byte() {

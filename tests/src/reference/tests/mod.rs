@@ -6,12 +6,65 @@ mod lent;
 mod listing;
 mod order;
 mod sheet;
+mod short;
 mod sides;
 mod structure;
 mod verdicts;
 
 use super::listing::TABLES;
-use super::{check, numbering, Answer, Tables};
+use super::{check_short, numbering, Answer, First, Tables};
+
+/// The short form of the check is the one with 0, of whatever is lent: the same
+/// answer and the same bytes, and never refusal 1. All calls below see to it for
+/// their file, so that it holds for every example.
+fn short_form(file: &[u8], tables: &Tables, verdicts: &[u8], findings: &[u8]) {
+    let asked = |call: &dyn Fn(&mut [u8], &mut [u8]) -> Answer| {
+        let (mut verdicts, mut findings) = (verdicts.to_vec(), findings.to_vec());
+        let answer = call(&mut verdicts, &mut findings);
+        (answer, verdicts, findings)
+    };
+    let short = asked(&|verdicts, findings| check_short(file, tables, verdicts, findings));
+    let with_0 = asked(&|verdicts, findings| super::check(0, file, tables, verdicts, findings));
+    assert!(short == with_0, "{:?}, {:?}", short.0, with_0.0);
+    assert!(!matches!(short.0, Answer::Refused { number: 1, .. }));
+}
+
+/// The same, with just enough room for the lines.
+fn short_form_of(file: &[u8], tables: &Tables) {
+    let lines = file.windows(2).filter(|pair| pair == b"\r\n").count();
+    short_form(file, tables, &vec![9; lines], &vec![9; 8 * lines]);
+}
+
+fn check(
+    tolerance: u64,
+    file: &[u8],
+    tables: &Tables,
+    verdicts: &mut [u8],
+    findings: &mut [u8],
+) -> Answer {
+    short_form(file, tables, verdicts, findings);
+    super::check(tolerance, file, tables, verdicts, findings)
+}
+
+fn structure(file: &[u8]) -> Answer {
+    short_form_of(file, &TABLES);
+    super::structure(file)
+}
+
+fn first_rejected(tolerance: u64, file: &[u8], tables: &Tables) -> First {
+    short_form_of(file, tables);
+    super::first_rejected(tolerance, file, tables)
+}
+
+fn listing(input: &[u8]) -> Vec<u8> {
+    short_form_of(input, &TABLES);
+    super::listing(input)
+}
+
+fn sheet_add(sheet: &mut [u8], file: &[u8], tables: &Tables) -> Answer {
+    short_form_of(file, tables);
+    super::sheet_add(sheet, file, tables)
+}
 
 /// A record: text put at positions counted from 1, blanks elsewhere.
 fn record(length: usize, parts: &[(usize, &str)]) -> Vec<u8> {

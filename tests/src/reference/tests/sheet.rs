@@ -2,7 +2,7 @@
 
 use super::*;
 use crate::generate::{case, seeds, spread};
-use crate::reference::sheet::{judge, sheet_add, Sheet, BYTES};
+use crate::reference::sheet::{judge, Sheet, BYTES};
 
 /// The numbers of a sheet.
 fn numbers(sheet: &[u8]) -> Vec<u64> {
@@ -254,14 +254,10 @@ fn records_of_all_verdicts() {
     assert_eq!(numbers(&sheet), numbers(&expected));
 }
 
-/// Its check has the largest tolerance, and the tables that are lent.
+/// Its check has the tables that are lent. Its tolerance stands with that of the
+/// short form.
 #[test]
-fn checks_as_the_short_form() {
-    for (share, findings) in [(9_994, 0), (9_993, 1), (10_006, 0)] {
-        let records = file_of(&[nwr(""), writer("SWR", [share; 3], &[])]);
-        let finding_3 = numbers(&sheet_with(&records))[FINDING + 3];
-        assert_eq!(finding_3, findings, "{share}");
-    }
+fn checks_with_the_lent_tables() {
     let tables = Tables {
         categories: b"JAZ",
         ..TABLES

@@ -1,7 +1,6 @@
 //! The scope's values on each side.
 
 use super::*;
-use crate::reference::structure;
 use crate::reference::values::{valid_date, valid_duration, valid_iswc};
 
 #[test]

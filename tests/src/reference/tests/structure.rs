@@ -1,8 +1,8 @@
 //! Refusals 3 to 11 and numbering.
 
 use super::*;
+use crate::reference::record_length;
 use crate::reference::types::{self, Class, TYPES};
-use crate::reference::{numbering, record_length, structure};
 
 fn ter(prefix: &str) -> Vec<u8> {
     record(24, &[(1, "TER"), (4, prefix)])
