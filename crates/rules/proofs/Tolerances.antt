@@ -55,9 +55,17 @@ module _ {A : Type 0} (R : A → A → Type 0) where
   all-joined f g h [] = tt
   all-joined f g h (x ∷ xs) = appended (f x) (g x) (joined f xs) (joined g xs) (h x) (all-joined f g h xs)
 
-  -- between two records that never differ, as the control records of a group or a file do not
-  enclosed : {a : A} → R a a → (xs ys : List A) → Placewise xs ys → Placewise (a ∷ xs ++ a ∷ []) (a ∷ ys ++ a ∷ [])
-  enclosed {a} same xs ys h = (same, appended xs ys (a ∷ []) (a ∷ []) h (same, tt))
+  -- between two that never differ, as those of a group's or a file's control records do not
+  enclosed : {B : Type 0} {a : A} → R a a → (f g : B → List A) → ((x : B) → Placewise (f x) (g x)) → (xs : List B)
+      → Placewise (a ∷ joined f xs ++ a ∷ []) (a ∷ joined g xs ++ a ∷ [])
+  enclosed {a = a} same f g h xs = (same, appended (joined f xs) (joined g xs) (a ∷ []) (a ∷ []) (all-joined f g h xs) (same, tt))
+
+mapped : {A B : Type 0} (R : A → A → Type 0) (S : B → B → Type 0) (f g : A → B) → ((x y : A) → R x y → S (f x) (g y)) → (xs ys : List A)
+    → Placewise R xs ys → Placewise S (map f xs) (map g ys)
+mapped R S f g h [] [] k = tt
+mapped R S f g h [] (y ∷ ys) k = absurd k
+mapped R S f g h (x ∷ xs) [] k = absurd k
+mapped R S f g h (x ∷ xs) (y ∷ ys) k = (h x y (k .0), mapped R S f g h xs ys (k .1))
 
 -- ---- tests
 
@@ -148,14 +156,11 @@ module _ (tables : Tables) {s t : ℕ} (less : s ≤ t) where
   unfolding groupFindings
   in-group g =
       let named = namedType (g .opening) in
-      enclosed Among tt (joined (transactionFindings tables t named) (g .transactions)) (joined (transactionFindings tables s named) (g .transactions))
-      (all-joined Among (transactionFindings tables t named) (transactionFindings tables s named) (in-transaction named) (g .transactions))
+      enclosed Among tt (transactionFindings tables t named) (transactionFindings tables s named) (in-transaction named) (g .transactions)
 
   in-file : (d : Tree) → Placewise Among (fileFindings tables t d) (fileFindings tables s d)
   unfolding fileFindings
-  in-file d =
-      enclosed Among tt (joined (groupFindings tables t) (d .groups)) (joined (groupFindings tables s) (d .groups))
-      (all-joined Among (groupFindings tables t) (groupFindings tables s) in-group (d .groups))
+  in-file d = enclosed Among tt (groupFindings tables t) (groupFindings tables s) in-group (d .groups)
 
 -- ---- and their verdicts, none smaller
 
@@ -196,17 +201,11 @@ any-more (x ∷ xs) (y ∷ ys) h = either (rejectsFrom 0 x) (rejects-more 0 x y 
 
 worsts-more : (xs ys : List (List Bool)) → Placewise Among xs ys → Placewise NoMore (map worst xs) (map worst ys)
 unfolding worst
-worsts-more [] [] h = tt
-worsts-more [] (y ∷ ys) h = absurd h
-worsts-more (x ∷ xs) [] h = absurd h
-worsts-more (x ∷ xs) (y ∷ ys) h = (worst-more 0 x y (h .0), worsts-more xs ys (h .1))
+worsts-more = mapped Among NoMore worst worst (worst-more 0)
 
 raised-more : {m n : ℕ} → m ≤ n → (us vs : List ℕ) → Placewise NoMore us vs → Placewise NoMore (raised m us) (raised n vs)
 unfolding raised
-raised-more h [] [] k = tt
-raised-more h [] (v ∷ vs) k = absurd k
-raised-more h (u ∷ us) [] k = absurd k
-raised-more h (u ∷ us) (v ∷ vs) k = (larger-more h (k .0), raised-more h us vs (k .1))
+raised-more {m} {n} h = mapped NoMore NoMore (larger m) (larger n) (λ u v k. larger-more h k)
 
 module _ (tables : Tables) {s t : ℕ} (less : s ≤ t) where
   of-transaction : (named : Bytes) (x : Transaction) → Placewise NoMore (transactionVerdicts tables t named x) (transactionVerdicts tables s named x)
@@ -222,17 +221,14 @@ module _ (tables : Tables) {s t : ℕ} (less : s ≤ t) where
   unfolding groupVerdicts
   of-group g =
       let named = namedType (g .opening) in
-      let wide = joined (transactionVerdicts tables t named) (g .transactions) in
-      let narrow = joined (transactionVerdicts tables s named) (g .transactions) in
-      raised-more (no-more (cond (isStray g) (verdict GR) 0)) (0 ∷ wide ++ 0 ∷ []) (0 ∷ narrow ++ 0 ∷ [])
-      (enclosed NoMore (no-more 0) wide narrow
-      (all-joined NoMore (transactionVerdicts tables t named) (transactionVerdicts tables s named) (of-transaction named) (g .transactions)))
+      let wide = transactionVerdicts tables t named in
+      let narrow = transactionVerdicts tables s named in
+      raised-more (no-more (cond (isStray g) (verdict GR) 0)) (0 ∷ joined wide (g .transactions) ++ 0 ∷ []) (0 ∷ joined narrow (g .transactions) ++ 0 ∷ [])
+      (enclosed NoMore (no-more 0) wide narrow (of-transaction named) (g .transactions))
 
   of-file : (d : Tree) → Placewise NoMore (fileVerdicts tables t d) (fileVerdicts tables s d)
   unfolding fileVerdicts
-  of-file d =
-      enclosed NoMore (no-more 0) (joined (groupVerdicts tables t) (d .groups)) (joined (groupVerdicts tables s) (d .groups))
-      (all-joined NoMore (groupVerdicts tables t) (groupVerdicts tables s) of-group (d .groups))
+  of-file d = enclosed NoMore (no-more 0) (groupVerdicts tables t) (groupVerdicts tables s) of-group (d .groups)
 
 -- ---- answers
 
@@ -250,7 +246,7 @@ exactly total = (
       (λ q.
       let (least, most) = both (leb fullShare total) (leb total fullShare) (rw q at e) in
       inr (omega (arith, leb-true fullShare total least, leb-true total fullShare most))),
-  λ h. settle h,
+  settle,
 )
   where
     settle : (total ≡ 0) ⊎ (total ≡ fullShare) → zeroOrFull shortTolerance total ≡ true
