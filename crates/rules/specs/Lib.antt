@@ -7,6 +7,8 @@ pub mod Writer
 pub mod Other
 pub mod Findings
 pub mod Totals
+pub mod Territories
+pub mod Collection
 pub mod Writers
 pub mod Order
 pub mod Chains

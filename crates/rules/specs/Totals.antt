@@ -24,7 +24,7 @@ writerShare PR r = shareOf (Writer.sharePR r)
 writerShare MR r = shareOf (Writer.shareMR r)
 writerShare SR r = shareOf (Writer.shareSR r)
 
-abbrev pub sumOf : (Bytes → ℕ) → List Bytes → ℕ
+abbrev pub sumOf : {A : Type 0} → (A → ℕ) → List A → ℕ
 sumOf f [] = 0
 sumOf f (r ∷ rs) = f r + sumOf f rs
 
