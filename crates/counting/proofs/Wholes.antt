@@ -14,7 +14,7 @@ use Rattle.format.specs.Tree.{groupsIn}
 use Rattle.rules.specs.Tables.{Tables}
 use Rattle.rules.specs.Findings.{setOf, worst}
 use Rattle.rules.specs.Works.{namedType, headerFindings, detailsFrom, transactionFindings}
-use Rattle.rules.specs.Verdicts.{joined, raised, isStray, groupFindings, fileFindings, transactionVerdicts, groupVerdicts, fileVerdicts}
+use Rattle.rules.specs.Verdicts.{joined, raised, isStray, groupFindingsBy, fileFindings, fileFindingsBy, transactionVerdicts, transactionVerdictsBy, groupVerdictsBy, fileVerdicts, fileVerdictsBy}
 use Rattle.rules.specs.Sheet.{byFinding}
 use Rattle.rules.proofs.Each.{header-long}
 use Rattle.rules.proofs.Joined.{joined-all}
@@ -79,7 +79,7 @@ module _ (tables : Tables) (t : ℕ) (named : Bytes) (x : Transaction) {i n : �
       pub counted-whole : {ls'' : List ℕ}
           → ((us vs : List ℕ) → Grown us vs (n - i) ls₀ ls' → ls'' ≡ byLevel (us ++ raised (cond (h .rejects || rejected) 3 0) vs))
           → CountedTransaction tables t named i n x fs₀ ls₀ fs' ls''
-      unfolding transactionVerdicts transactionFindings
+      unfolding transactionVerdictsBy transactionFindings
       counted-whole settled =
           rw (headed .rejects, details .rejects) at (part-raised counted-own (worsts-most (transactionFindings tables t named x)) (cond (h .rejects || rejected) 3 0) settled)
 
@@ -106,7 +106,7 @@ module _ (tables : Tables) (t : ℕ) (named : Bytes) (rs : List Bytes) {i n : �
   pub counted-group : {stray : Bool} {ls' : List ℕ} → named ≡ namedType (firstOf rs) → stray ≡ isStrayAmong named (transactionsOf (tailOf rs))
       → ((us vs : List ℕ) → Grown us vs (n + 1 - i) ls₀ ls → ls' ≡ byLevel (us ++ raised (cond stray 4 0) vs))
       → CountedGroup tables t i (n + 1) (groupOf rs) fs₀ ls₀ fs ls'
-  unfolding groupVerdicts groupFindings isStray verdicts
+  unfolding groupVerdictsBy groupFindingsBy isStray verdicts
   counted-group {stray} nm strays settled = rw (strays, nm) at (part-raised (part-around inside refl refl) lows (cond stray 4 0) settled)
 
 -- ---- a file
@@ -122,7 +122,7 @@ begun-none i = record { sets = []; verdicts = []; counts = none-counted; few-set
 module _ {f : Bytes} (h : Here f 0 unknown (restAt f 0)) (tables : Tables) (t : ℕ) {n : ℕ} {fs ls : List ℕ}
     (groups : CountedGroups tables t 1 n (groupsIn cwr22 (restAt f 169)) (replicate 64 0) (replicate 4 0) fs ls) where
   all-records : Part 0 (n + 1) (fileVerdicts tables t (content f)) (fileFindings tables t (content f)) (replicate 64 0) (replicate 4 0) fs ls
-  unfolding fileFindings fileVerdicts
+  unfolding fileFindingsBy fileVerdictsBy
   all-records = rw (all-groups h) (part-around groups {j = 0} (omega arith) refl)
 
   pub file-findings : fs ≡ byFinding (fileFindings tables t (content f))

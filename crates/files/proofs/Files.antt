@@ -14,7 +14,7 @@ use Rattle.format.proofs.Logic.{is-T}
 use Rattle.format.proofs.Tree.{is→eq}
 use Rattle.format.proofs.Walks.{groups-skip}
 use Rattle.rules.specs.Tables.{Tables}
-use Rattle.rules.specs.Verdicts.{fileFindings, fileVerdicts}
+use Rattle.rules.specs.Verdicts.{fileFindingsBy, fileVerdictsBy}
 use Rattle.rules.specs.Outcome.{content}
 use Rattle.structure.specs.Cursor.{Here}
 use Rattle.transactions.specs.Walk.{restAt, tailOf, Position, Filled}
@@ -44,5 +44,5 @@ module _ {f : Bytes} (h : Here f 0 unknown (restAt f 0)) where
   pub written-file : (tables : Tables) (t n : ℕ) {v₀ g₀ v₁ g₁ v₂ g₂ v₃ g₃ : Bytes} → Filled 0 1 (0 ∷ []) ([] ∷ []) v₀ g₀ v₁ g₁
       → FilledGroups tables t 1 n (groupsIn cwr22 (restAt f 169)) v₁ g₁ v₂ g₂ → Filled n (n + 1) (0 ∷ []) ([] ∷ []) v₂ g₂ v₃ g₃
       → WrittenFile tables t f v₀ g₀ v₃ g₃
-  unfolding fileVerdicts fileFindings
+  unfolding fileVerdictsBy fileFindingsBy
   written-file tables t n opened groups closed = rw all-groups (filled-then (filled-then opened groups) closed .written)

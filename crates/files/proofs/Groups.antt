@@ -20,7 +20,7 @@ use Rattle.format.proofs.Tree.{is→eq}
 use Rattle.format.proofs.Walks.{group-first, groups-skip}
 use Rattle.rules.specs.Tables.{Tables}
 use Rattle.rules.specs.Works.{namedType}
-use Rattle.rules.specs.Verdicts.{raised, isStray, groupFindings, groupVerdicts}
+use Rattle.rules.specs.Verdicts.{raised, isStray, groupFindingsBy, groupVerdictsBy}
 use Rattle.structure.proofs.Cursor.{three-left}
 use Rattle.transactions.specs.declared.Passed.{Passed}
 use Rattle.transactions.specs.Walk.{restAt, tailOf, Position, Filled}
@@ -82,7 +82,7 @@ pub filled-group : (tables : Tables) (t : ℕ) (rs : List Bytes) {named : Bytes}
     → p .stray ≡ isStrayAmong named (transactionsOf (tailOf rs))
     → least ≡ cond (p .stray) 4 0 → ys ≡ raised least (take (p .index + 1 - i) (drop i v₃))
     → FilledGroup tables t i (p .index + 1) (groupOf rs) v₀ g₀ (putMid i (p .index + 1 - i) v₃ ys) g₃
-unfolding groupVerdicts groupFindings isStray
+unfolding groupVerdictsBy groupFindingsBy isStray
 filled-group tables t rs {named} {i} p {least} {ys = ys} nm opened inside closed stray l y =
     let all = filled-then (filled-then opened inside) closed in
     rw (l, stray, nm) at (filled-raised all least {ys = ys} y)

@@ -9,7 +9,7 @@ use Rattle.format.specs.Doc.{Doc, Group, Transaction}
 use Rattle.format.proofs.Logic.{All-append}
 use Rattle.rules.specs.Tables.{Tables}
 use Rattle.rules.specs.Works.{namedType, detailsFrom, transactionFindings}
-use Rattle.rules.specs.Verdicts.{joined, groupFindings, fileFindings}
+use Rattle.rules.specs.Verdicts.{joined, groupFindings, groupFindingsBy, fileFindings, fileFindingsBy}
 use Rattle.rules.proofs.Each.{own-long, header-long}
 
 abbrev pub Small : List (List Bool) → Type 0
@@ -36,11 +36,11 @@ module _ (tables : Tables) (t : ℕ) where
   small-joined of each (x ∷ xs) = append (of x) (joined of xs) (each x) (small-joined of each xs)
 
   small-group : (g : Group) → Small (groupFindings tables t g)
-  unfolding groupFindings
+  unfolding groupFindingsBy
   small-group g =
       let of = transactionFindings tables t (namedType (g .opening)) in
       between (joined of (g .transactions)) (small-joined of (small-transaction (namedType (g .opening))) (g .transactions))
 
   pub small-file : (d : Doc) → Small (fileFindings tables t d)
-  unfolding fileFindings
+  unfolding fileFindingsBy
   small-file d = between (joined (groupFindings tables t) (d .groups)) (small-joined (groupFindings tables t) small-group (d .groups))

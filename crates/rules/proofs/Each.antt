@@ -18,7 +18,7 @@ use Rattle.format.proofs.At22.{grows-22}
 use Rattle.rules.specs.Tables.{Tables}
 use Rattle.rules.specs.Findings.{fieldFindings, ownFindings, larger, worst}
 use Rattle.rules.specs.Works.{namedType, headerFindings, detailsFrom, transactionFindings}
-use Rattle.rules.specs.Verdicts.{joined, raised, groupFindings, fileFindings, transactionVerdicts, groupVerdicts, fileVerdicts}
+use Rattle.rules.specs.Verdicts.{joined, raised, groupFindings, groupFindingsBy, fileFindings, fileFindingsBy, transactionVerdicts, transactionVerdictsBy, groupVerdicts, groupVerdictsBy, fileVerdicts, fileVerdictsBy}
 use Rattle.rules.specs.Outcome.{content}
 
 -- ---- the leaves of a tree
@@ -78,27 +78,27 @@ module _ (tables : Tables) (t : ℕ) where
   transaction-findings named x = ap suc (each-detail [] (x .details))
 
   pub group-findings : (g : Group) → length (groupFindings tables t g) ≡ recordsG g
-  unfolding groupFindings
+  unfolding groupFindingsBy
   group-findings g =
       let named = namedType (g .opening) in
       around [] (joined (transactionFindings tables t named) (g .transactions)) []
       ∙ ap (λ n. n + 2) (each-transaction (transactionFindings tables t named) (transaction-findings named) (g .transactions))
 
   pub findings-all : (d : Doc) → length (fileFindings tables t d) ≡ recordsAll d
-  unfolding fileFindings
+  unfolding fileFindingsBy
   findings-all d =
       around [] (joined (groupFindings tables t) (d .groups)) []
       ∙ ap (λ n. n + 2) (each-group (groupFindings tables t) group-findings (d .groups))
 
   transaction-verdicts : (named : Bytes) (x : Transaction) → length (transactionVerdicts tables t named x) ≡ suc (length (x .details))
-  unfolding transactionVerdicts
+  unfolding transactionVerdictsBy
   transaction-verdicts named x =
       length-raised _ (map worst (transactionFindings tables t named x))
       ∙ length-map (transactionFindings tables t named x) worst
       ∙ transaction-findings named x
 
   group-verdicts : (g : Group) → length (groupVerdicts tables t g) ≡ recordsG g
-  unfolding groupVerdicts
+  unfolding groupVerdictsBy
   group-verdicts g =
       let named = namedType (g .opening) in
       length-raised _ (0 ∷ joined (transactionVerdicts tables t named) (g .transactions) ++ 0 ∷ [])
@@ -106,7 +106,7 @@ module _ (tables : Tables) (t : ℕ) where
       ∙ ap (λ n. n + 2) (each-transaction (transactionVerdicts tables t named) (transaction-verdicts named) (g .transactions))
 
   pub verdicts-all : (d : Doc) → length (fileVerdicts tables t d) ≡ recordsAll d
-  unfolding fileVerdicts
+  unfolding fileVerdictsBy
   verdicts-all d =
       around 0 (joined (groupVerdicts tables t) (d .groups)) 0
       ∙ ap (λ n. n + 2) (each-group (groupVerdicts tables t) group-verdicts (d .groups))

@@ -14,7 +14,7 @@ use Rattle.format.specs.Tree.{tree}
 use Rattle.format.proofs.Examples.{fileA}
 use Rattle.rules.specs.Tables.{Tables, rightTable}
 use Rattle.rules.specs.Findings.{setOf, countOf, lowestOf, level, worst}
-use Rattle.rules.specs.Verdicts.{findingBytes, rejects, raised, isStray, groupFindings, fileFindings, transactionVerdicts, groupVerdicts, fileVerdicts}
+use Rattle.rules.specs.Verdicts.{findingBytes, rejects, raised, isStray, groupFindingsBy, fileFindingsBy, transactionVerdictsBy, groupVerdictsBy, fileVerdictsBy}
 use Rattle.rules.specs.Outcome.{admission, answer, Outcome, check, shortTolerance}
 use Rattle.rules.specs.First.{isGrave, ofEach, firstRejected, First, refusedAs, nothing, at, first}
 use Rattle.rules.specs.Listing.{figure, recordLine, answerLine, listed, mostInput, listingTables, listing}
@@ -276,7 +276,7 @@ searches =
 all-files : (map computed examples ≡ map said examples) × (map printed listings ≡ map shown listings) × (map sought searches ≡ map answered searches)
 unfolding examples computed said goes stops lent findingsB none listings printed shown texts searches sought answered fileA fileB fileC
     fileD fileOf verdictsShort findingsShort opens mild ends opening closing foundOn check answer admission rightTable structure judged lines isText decimal rows22
-    version22 tree findingBytes rejects raised isStray groupFindings fileFindings transactionVerdicts groupVerdicts fileVerdicts
+    version22 tree findingBytes rejects raised isStray groupFindingsBy fileFindingsBy transactionVerdictsBy groupVerdictsBy fileVerdictsBy
     setOf bytesOf level worst figure recordLine answerLine listed listing countOf lowestOf first isGrave firstRejected ofEach
 all-files = (refl, refl, refl)
 

@@ -12,7 +12,7 @@ use Rattle.rules.specs.Tables.{Tables}
 use Rattle.rules.specs.Records.{any}
 use Rattle.rules.specs.Findings.{worst}
 use Rattle.rules.specs.Works.{namedType, transactionFindings}
-use Rattle.rules.specs.Verdicts.{joined, groupFindings, fileFindings}
+use Rattle.rules.specs.Verdicts.{joined, groupFindings, groupFindingsBy, fileFindings, fileFindingsBy}
 use Rattle.rules.specs.First.{isGrave, ofTransactions, ofGroups, ofEach}
 use Rattle.rules.specs.Claims.{ownSets}
 use Rattle.rules.proofs.Each.{transaction-findings, group-findings}
@@ -33,7 +33,7 @@ module _ (tables : Tables) (t : ℕ) where
   ofGroup g = map (transactionFindings tables t (namedType (g .opening))) (g .transactions)
 
   of-group : (g : Group) (rest : List (List Bool)) → ofTransactions (g .transactions) (drop 1 (groupFindings tables t g ++ rest)) ≡ ofGroup g
-  unfolding groupFindings
+  unfolding groupFindingsBy
   of-group g rest =
       let f = transactionFindings tables t (namedType (g .opening)) in
       rw (append-assoc (joined f (g .transactions)) ([] ∷ []) rest)
@@ -49,12 +49,12 @@ module _ (tables : Tables) (t : ℕ) where
       ∙ ap (λ l. ofGroup g ++ l) (of-groups gs rest))
 
   pub own-sets : (d : Tree) → ofEach d (fileFindings tables t d) ≡ ownSets tables t d
-  unfolding ofEach fileFindings
+  unfolding ofEach fileFindingsBy
   own-sets d = of-groups (d .groups) ([] ∷ [])
 
   -- the other records have no findings
   grave-group : (g : Group) → any isGrave (groupFindings tables t g) ≡ any (any isGrave) (ofGroup g)
-  unfolding groupFindings isGrave worst
+  unfolding groupFindingsBy isGrave worst
   grave-group g =
       let f = transactionFindings tables t (namedType (g .opening)) in
       any-append isGrave (joined f (g .transactions)) ([] ∷ []) ∙ or-false _ ∙ any-joined f (g .transactions)
@@ -66,7 +66,7 @@ module _ (tables : Tables) (t : ℕ) where
       ∙ rw (grave-group g, grave-groups gs) (sym (any-append (any isGrave) (ofGroup g) (joined ofGroup gs)))
 
   pub grave-file : (d : Tree) → any isGrave (fileFindings tables t d) ≡ any (any isGrave) (ownSets tables t d)
-  unfolding fileFindings isGrave worst
+  unfolding fileFindingsBy isGrave worst
   grave-file d = any-append isGrave (joined (groupFindings tables t) (d .groups)) ([] ∷ []) ∙ or-false _ ∙ grave-groups (d .groups)
 
   -- no more transactions than records

@@ -14,7 +14,7 @@ use Rattle.rules.specs.Tables.{Tables}
 use Rattle.rules.specs.Records.{any}
 use Rattle.rules.specs.Findings.{fieldFindings, ownFindings, setOf, places, worst}
 use Rattle.rules.specs.Works.{namedType, headerFindings, detailsFrom, transactionFindings}
-use Rattle.rules.specs.Verdicts.{joined, findingBytes, groupFindings, fileFindings}
+use Rattle.rules.specs.Verdicts.{joined, findingBytes, groupFindings, groupFindingsBy, fileFindings, fileFindingsBy}
 use Rattle.rules.specs.First.{isGrave, ofEach, firstAt, firstRejected}
 use Rattle.rules.specs.Claims.{setsIn}
 use Rattle.rules.proofs.Joined.{joined-all}
@@ -41,13 +41,13 @@ module _ (tables : Tables) (t : ℕ) where
   small-transaction named x = (omega arith, small-details [] (x .details))
 
   small-group : (g : Group) → Small (groupFindings tables t g)
-  unfolding groupFindings
+  unfolding groupFindingsBy
   small-group g =
       let f = transactionFindings tables t (namedType (g .opening)) in
       (omega arith, All-append Fits (joined f (g .transactions)) ([] ∷ []) (joined-all Fits f (small-transaction _) (g .transactions)) (omega arith, tt))
 
   pub small-file : (d : Tree) → Small (fileFindings tables t d)
-  unfolding fileFindings
+  unfolding fileFindingsBy
   small-file d =
       let f = groupFindings tables t in
       (omega arith, All-append Fits (joined f (d .groups)) ([] ∷ []) (joined-all Fits f small-group (d .groups)) (omega arith, tt))

@@ -15,7 +15,7 @@ use Rattle.format.proofs.Examples.{fileA}
 use Rattle.rules.specs.Tables.{Tables, tablesOf, rightTable}
 use Rattle.rules.specs.Records.{only}
 use Rattle.rules.specs.Findings.{level, worst}
-use Rattle.rules.specs.Verdicts.{rejects, raised, isStray, groupFindings, fileFindings, transactionVerdicts, groupVerdicts, fileVerdicts}
+use Rattle.rules.specs.Verdicts.{rejects, raised, isStray, groupFindingsBy, fileFindingsBy, transactionVerdictsBy, groupVerdictsBy, fileVerdictsBy}
 use Rattle.rules.specs.Outcome.{admission}
 use Rattle.rules.specs.Listing.{listingTables}
 use Rattle.rules.specs.Sheet.{Taken, answerTo, allTransactions, allFindings, allVerdicts, Missed, misses, missedBy, missed}
@@ -267,6 +267,6 @@ all-sheets : (map counted totals ≡ map told totals) × (map computed sheets �
 unfolding minus missing none carried sheet totals counted told ofPublisher ofWriter work fileA fileB fileD fileE fileF opens opening closing ends
     taken wrong bare computed said fresh onlyRefused sheetE together sheets top high low added meant sums steps after left near brim
     foundOn answerTo admission rightTable structure judged lines isText decimal rows22 version22 tree
-    rejects raised isStray groupFindings fileFindings transactionVerdicts groupVerdicts fileVerdicts level worst
+    rejects raised isStray groupFindingsBy fileFindingsBy transactionVerdictsBy groupVerdictsBy fileVerdictsBy level worst
     allTransactions allFindings allVerdicts missedBy missed byFinding byVerdict sheetOf withSheet add
 all-sheets = (refl, refl, refl, refl)

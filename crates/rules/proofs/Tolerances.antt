@@ -19,7 +19,7 @@ use Rattle.rules.specs.Records.{any}
 use Rattle.rules.specs.Totals.{Right, PR, MR, SR, publishersTotal, writersTotal, wholeTotal, exceeds, zeroOrFull, is1, is2, is3}
 use Rattle.rules.specs.Findings.{TR, GR, level, verdict, verdictOf, larger, worstFrom, worst}
 use Rattle.rules.specs.Works.{namedType, is0, headerFindings, detailsFrom, transactionFindings}
-use Rattle.rules.specs.Verdicts.{joined, rejectsFrom, rejects, raised, isStray, groupFindings, fileFindings, transactionVerdicts, groupVerdicts, fileVerdicts}
+use Rattle.rules.specs.Verdicts.{joined, rejectsFrom, rejects, raised, isStray, groupFindings, groupFindingsBy, fileFindings, fileFindingsBy, transactionVerdicts, transactionVerdictsBy, groupVerdicts, groupVerdictsBy, fileVerdicts, fileVerdictsBy}
 use Rattle.rules.specs.Outcome.{admission, answer, check, shortTolerance}
 use Rattle.rules.specs.Claims.{Tolerances}
 use Rattle.rules.proofs.Counts.{larger-max}
@@ -153,13 +153,13 @@ module _ (tables : Tables) {s t : ℕ} (less : s ≤ t) where
   in-transaction named x = (in-header named x, alike Among among-itself (detailsFrom tables [] (x .details)))
 
   in-group : (g : Group) → Placewise Among (groupFindings tables t g) (groupFindings tables s g)
-  unfolding groupFindings
+  unfolding groupFindingsBy
   in-group g =
       let named = namedType (g .opening) in
       enclosed Among tt (transactionFindings tables t named) (transactionFindings tables s named) (in-transaction named) (g .transactions)
 
   in-file : (d : Tree) → Placewise Among (fileFindings tables t d) (fileFindings tables s d)
-  unfolding fileFindings
+  unfolding fileFindingsBy
   in-file d = enclosed Among tt (groupFindings tables t) (groupFindings tables s) in-group (d .groups)
 
 -- ---- and their verdicts, none smaller
@@ -209,7 +209,7 @@ raised-more {m} {n} h = mapped NoMore NoMore (larger m) (larger n) (λ u v k. la
 
 module _ (tables : Tables) {s t : ℕ} (less : s ≤ t) where
   of-transaction : (named : Bytes) (x : Transaction) → Placewise NoMore (transactionVerdicts tables t named x) (transactionVerdicts tables s named x)
-  unfolding transactionVerdicts
+  unfolding transactionVerdictsBy
   of-transaction named x =
       let wide = transactionFindings tables t named x in
       let narrow = transactionFindings tables s named x in
@@ -218,7 +218,7 @@ module _ (tables : Tables) {s t : ℕ} (less : s ≤ t) where
       (worsts-more wide narrow h)
 
   of-group : (g : Group) → Placewise NoMore (groupVerdicts tables t g) (groupVerdicts tables s g)
-  unfolding groupVerdicts
+  unfolding groupVerdictsBy
   of-group g =
       let named = namedType (g .opening) in
       let wide = transactionVerdicts tables t named in
@@ -227,7 +227,7 @@ module _ (tables : Tables) {s t : ℕ} (less : s ≤ t) where
       (enclosed NoMore (no-more 0) wide narrow (of-transaction named) (g .transactions))
 
   of-file : (d : Tree) → Placewise NoMore (fileVerdicts tables t d) (fileVerdicts tables s d)
-  unfolding fileVerdicts
+  unfolding fileVerdictsBy
   of-file d = enclosed NoMore (no-more 0) (groupVerdicts tables t) (groupVerdicts tables s) of-group (d .groups)
 
 -- ---- answers

@@ -18,7 +18,7 @@ use Rattle.rules.specs.Tables.{Tables}
 use Rattle.rules.specs.Records.{any}
 use Rattle.rules.specs.Findings.{Level, FR, RR, TR, GR, level, verdict, verdictOf, larger, worstFrom, worst}
 use Rattle.rules.specs.Works.{namedType, transactionFindings}
-use Rattle.rules.specs.Verdicts.{joined, rejects, raised, isStray, transactionVerdicts, groupVerdicts, fileVerdicts}
+use Rattle.rules.specs.Verdicts.{joined, rejects, raised, isStray, transactionVerdicts, transactionVerdictsBy, groupVerdicts, groupVerdictsBy, fileVerdicts, fileVerdictsBy}
 use Rattle.rules.specs.Sheet.{byVerdict}
 use Rattle.rules.specs.Claims.{sum}
 use Rattle.rules.proofs.Joined.{joined-all}
@@ -93,13 +93,13 @@ between vs h = (omega arith, All-append AtMost4 vs (0 ∷ []) h (omega arith, tt
 
 module _ (tables : Tables) (t : ℕ) where
   pub transaction-most : (named : Bytes) (x : Transaction) → All AtMost4 (transactionVerdicts tables t named x)
-  unfolding transactionVerdicts
+  unfolding transactionVerdictsBy
   transaction-most named x =
       let sets = transactionFindings tables t named x in
       raised-most (choice-most (any rejects sets) {m = verdict TR} {n = 0} (omega arith) (omega arith)) (map worst sets) (worsts-most sets)
 
   group-most : (g : Group) → All AtMost4 (groupVerdicts tables t g)
-  unfolding groupVerdicts
+  unfolding groupVerdictsBy
   group-most g =
       let named = namedType (g .opening) in
       let inside = joined (transactionVerdicts tables t named) (g .transactions) in
@@ -107,7 +107,7 @@ module _ (tables : Tables) (t : ℕ) where
       (between inside (joined-all AtMost4 (transactionVerdicts tables t named) (transaction-most named) (g .transactions)))
 
   pub verdicts-most : (d : Tree) → All AtMost4 (fileVerdicts tables t d)
-  unfolding fileVerdicts
+  unfolding fileVerdictsBy
   verdicts-most d = between (joined (groupVerdicts tables t) (d .groups)) (joined-all AtMost4 (groupVerdicts tables t) group-most (d .groups))
 
 -- ---- so each has one of five

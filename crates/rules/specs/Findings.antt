@@ -85,7 +85,7 @@ unfoldable pub level : ℕ → Option Level
 level n =
     cond (isOneOf n (0 ∷ [])) (some GR)
     (cond (isOneOf n (1 ∷ 2 ∷ 3 ∷ 4 ∷ 5 ∷ 6 ∷ 7 ∷ 8 ∷ 9 ∷ 10 ∷ 11 ∷ 12 ∷ 13 ∷ 14 ∷ 15 ∷ [])) (some TR)
-    (cond (isOneOf n (16 ∷ 17 ∷ 18 ∷ 21 ∷ 22 ∷ 25 ∷ 26 ∷ 27 ∷ 28 ∷ 29 ∷ 30 ∷ 31 ∷ 32 ∷ 38 ∷ 39 ∷ 41 ∷ 42 ∷ [])) (some TR)
+    (cond (isOneOf n (16 ∷ 17 ∷ 18 ∷ 21 ∷ 22 ∷ 25 ∷ 26 ∷ 27 ∷ 28 ∷ 29 ∷ 30 ∷ 31 ∷ 32 ∷ 38 ∷ 39 ∷ 41 ∷ 42 ∷ 47 ∷ 48 ∷ [])) (some TR)
     (cond (isOneOf n (24 ∷ 43 ∷ 44 ∷ [])) (some RR)
     (cond (isOneOf n (19 ∷ 20 ∷ 23 ∷ 33 ∷ 34 ∷ 35 ∷ 36 ∷ 37 ∷ 40 ∷ 45 ∷ 46 ∷ [])) (some FR)
     none))))

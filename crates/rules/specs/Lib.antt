@@ -15,6 +15,7 @@ pub mod Chains
 pub mod Works
 pub mod Verdicts
 pub mod Outcome
+pub mod WithTerritories
 pub mod First
 pub mod Sheet
 pub mod Listing

@@ -18,14 +18,18 @@ use Rattle.rules.specs.Verdicts.{findingBytes, fileFindings, fileVerdict
 abbrev pub enough : ℕ → ℕ → ℕ → Bool
 enough v g r = leb r v && leb (8 * r) g
 
--- 1 to 10 in their order: what is answered before any buffer is looked at
-unfoldable pub admission : Tables → ℕ → Bytes → Answer
-admission tables t f =
+-- 1 and 2, for what is lent beside the file; then what is answered of the rest
+abbrev pub lentRight : Tables → ℕ → Answer → Answer
+lentRight tables t rest =
     refusal 1 (unless (leb t largestTolerance) 0)
     (refusal 2 (unless (rightTable languageSize (tables .languages)) 0)
     (refusal 2 (unless (rightTable societySize (tables .societies)) 1)
     (refusal 2 (unless (rightTable categorySize (tables .categories)) 2)
-    (structure cwr22 f))))
+    rest)))
+
+-- 1 to 10 in their order: what is answered before any buffer is looked at
+unfoldable pub admission : Tables → ℕ → Bytes → Answer
+admission tables t f = lentRight tables t (structure cwr22 f)
 
 -- and 11, for buffers of v and g bytes
 unfoldable pub answer : Tables → ℕ → Bytes → ℕ → ℕ → Answer

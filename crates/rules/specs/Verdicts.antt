@@ -36,27 +36,44 @@ raised least verdicts = map (larger least) verdicts
 unfoldable pub isStray : Group → Bool
 isStray g = any (λ (x : Transaction). is0 (namedType (g .opening)) (x .header)) (g .transactions)
 
--- the tables and the tolerance
-module _ (tables : Tables) (t : ℕ) where
-  -- ---- findings
+-- ---- over all records, given the sets of each transaction's records under a GRH that names a type
 
-  -- GRH and GRT have none; nor have HDR and TRL
-  unfoldable pub groupFindings : Group → List (List Bool)
-  groupFindings g = [] ∷ joined (transactionFindings tables t (namedType (g .opening))) (g .transactions) ++ [] ∷ []
+module _ (sets : Bytes → Transaction → List (List Bool)) where
+  -- GRH and GRT have no findings; nor have HDR and TRL
+  unfoldable pub groupFindingsBy : Group → List (List Bool)
+  groupFindingsBy g = [] ∷ joined (sets (namedType (g .opening))) (g .transactions) ++ [] ∷ []
 
-  unfoldable pub fileFindings : Tree → List (List Bool)
-  fileFindings d = [] ∷ joined groupFindings (d .groups) ++ [] ∷ []
+  unfoldable pub fileFindingsBy : Tree → List (List Bool)
+  fileFindingsBy d = [] ∷ joined groupFindingsBy (d .groups) ++ [] ∷ []
 
-  -- ---- verdicts: the largest of a record's own levels, ..
+  -- a verdict is the largest of a record's own levels, ..
 
   -- .. that of TR if any record of its transaction has a TR finding, ..
-  unfoldable pub transactionVerdicts : Bytes → Transaction → List ℕ
-  transactionVerdicts named x =
-      raised (cond (any rejects (transactionFindings tables t named x)) (verdict TR) 0) (map worst (transactionFindings tables t named x))
+  unfoldable pub transactionVerdictsBy : Bytes → Transaction → List ℕ
+  transactionVerdictsBy named x = raised (cond (any rejects (sets named x)) (verdict TR) 0) (map worst (sets named x))
 
   -- .. that of GR if any header in its group has finding 0
-  unfoldable pub groupVerdicts : Group → List ℕ
-  groupVerdicts g = raised (cond (isStray g) (verdict GR) 0) (0 ∷ joined (transactionVerdicts (namedType (g .opening))) (g .transactions) ++ 0 ∷ [])
+  unfoldable pub groupVerdictsBy : Group → List ℕ
+  groupVerdictsBy g =
+      raised (cond (isStray g) (verdict GR) 0) (0 ∷ joined (transactionVerdictsBy (namedType (g .opening))) (g .transactions) ++ 0 ∷ [])
 
-  unfoldable pub fileVerdicts : Tree → List ℕ
-  fileVerdicts d = 0 ∷ joined groupVerdicts (d .groups) ++ 0 ∷ []
+  unfoldable pub fileVerdictsBy : Tree → List ℕ
+  fileVerdictsBy d = 0 ∷ joined groupVerdictsBy (d .groups) ++ 0 ∷ []
+
+-- ---- of a check without a territory table
+
+module _ (tables : Tables) (t : ℕ) where
+  abbrev pub groupFindings : Group → List (List Bool)
+  groupFindings = groupFindingsBy (transactionFindings tables t)
+
+  abbrev pub fileFindings : Tree → List (List Bool)
+  fileFindings = fileFindingsBy (transactionFindings tables t)
+
+  abbrev pub transactionVerdicts : Bytes → Transaction → List ℕ
+  transactionVerdicts = transactionVerdictsBy (transactionFindings tables t)
+
+  abbrev pub groupVerdicts : Group → List ℕ
+  groupVerdicts = groupVerdictsBy (transactionFindings tables t)
+
+  abbrev pub fileVerdicts : Tree → List ℕ
+  fileVerdicts = fileVerdictsBy (transactionFindings tables t)

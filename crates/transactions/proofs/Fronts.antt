@@ -18,7 +18,7 @@ use Rattle.rules.specs.Tables.{Tables}
 use Rattle.rules.specs.Records.{isHeader}
 use Rattle.rules.specs.Findings.{worst}
 use Rattle.rules.specs.Works.{headerFindings, detailsFrom, transactionFindings}
-use Rattle.rules.specs.Verdicts.{rejects, raised, transactionVerdicts}
+use Rattle.rules.specs.Verdicts.{rejects, raised, transactionVerdictsBy}
 use Rattle.kinds.proofs.Laws.{inClass, of-class}
 use Rattle.structure.specs.Cursor.{Here}
 use Rattle.edits.specs.Kinds.{HeaderRecord}
@@ -68,7 +68,7 @@ pub filled-whole : (tables : Tables) (t : ℕ) (named : Bytes) (x : Transaction)
     → Written i (h .level ∷ []) (headerFindings tables t named x ∷ []) v₁ g₁ v₂ g₂
     → least ≡ cond (h .rejects || rejected) 3 0 → ys ≡ raised least (take (n - i) (drop i v₂))
     → FilledTransaction tables t named i n x v₀ g₀ (putMid i (n - i) v₂ ys) g₂
-unfolding transactionFindings transactionVerdicts
+unfolding transactionFindings transactionVerdictsBy
 filled-whole tables t named x {i} {n} {h = h} {v₀} {g₀} {v₂ = v₂} {g₂} {ys} {least} details headed w l y =
     let sets = detailsFrom tables [] (x .details) in
     let own = headerFindings tables t named x in
