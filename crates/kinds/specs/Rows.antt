@@ -31,6 +31,8 @@ sorts =
     ∷ (ascii "REC" ∷ [])
     ∷ (ascii "INS" ∷ ascii "IND" ∷ [])
     ∷ (ascii "TER" ∷ ascii "IPA" ∷ ascii "NPA" ∷ ascii "MSG" ∷ [])
+    ∷ (ascii "SPT" ∷ ascii "OPT" ∷ [])
+    ∷ (ascii "SWT" ∷ ascii "OWT" ∷ [])
     ∷ []
 
 -- 0 where no list holds the type

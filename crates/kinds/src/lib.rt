@@ -26,7 +26,7 @@ pub struct Row {
     pub rank: u8,
     // Whether it may begin its stage without the leader.
     pub alone: bool,
-    // What is judged of its records besides their order: NOTHING to MISPLACED, below.
+    // What is judged of its records besides their order: NOTHING to WRITERS_CLAIM, below.
     pub sort: u8,
 }
 
@@ -101,6 +101,12 @@ pub const INSTRUMENT: u8 = 8;
 
 // TER, IPA, NPA, MSG.
 pub const MISPLACED: u8 = 9;
+
+// SPT, OPT.
+pub const PUBLISHERS_CLAIM: u8 = 10;
+
+// SWT, OWT.
+pub const WRITERS_CLAIM: u8 = 11;
 
 // How many bytes a record has that opens or closes a file or a group, and a header.
 pub const HDR_LENGTH: u16 = 167;
@@ -428,7 +434,7 @@ pub const ROWS: [Row; 38] = [
         third: 0,
         rank: 2,
         alone: false,
-        sort: NOTHING,
+        sort: PUBLISHERS_CLAIM,
     },
     Row {
         a: b'O',
@@ -441,7 +447,7 @@ pub const ROWS: [Row; 38] = [
         third: 0,
         rank: 2,
         alone: false,
-        sort: NOTHING,
+        sort: PUBLISHERS_CLAIM,
     },
     Row {
         a: b'S',
@@ -493,7 +499,7 @@ pub const ROWS: [Row; 38] = [
         third: 0,
         rank: 2,
         alone: false,
-        sort: NOTHING,
+        sort: WRITERS_CLAIM,
     },
     Row {
         a: b'O',
@@ -506,7 +512,7 @@ pub const ROWS: [Row; 38] = [
         third: 0,
         rank: 2,
         alone: false,
-        sort: NOTHING,
+        sort: WRITERS_CLAIM,
     },
     Row {
         a: b'P',

@@ -1,29 +1,36 @@
--- What is claimed of the outcome of a check, of the first transaction to look at, of tolerances, of finding 2 beside 1 and 3, and of the catalogue
--- sheet. proofs/Outcomes.antt, proofs/First.antt, proofs/Tolerances.antt, proofs/SmallChange.antt and proofs/Sheets.antt have the proofs.
+-- What is claimed of the outcome of a check, of the first transaction to look at, of tolerances, of finding 2 beside 1 and 3, of collection
+-- shares by territory, and of the catalogue sheet. proofs/Outcomes.antt, proofs/First.antt, proofs/Tolerances.antt, proofs/SmallChange.antt,
+-- proofs/Territories.antt and proofs/Sheets.antt have the proofs.
 use Prim.Native.Nat.{ℕ, zero, suc, _+_, _*_, _^_, _≤_, _<_}
 use mathlib.Core.Path.{_≡_}
-use mathlib.Core.Bool.{Bool, true, false, _||_}
+use mathlib.Core.Bool.{Bool, true, false, not, _||_}
+use mathlib.Core.Option.{some}
 use mathlib.Core.List.{List, [], _∷_, _++_, map, Perm}
 use mathlib.Core.Logic.{_↔_, _≢_, _⊎_}
 use lib.ListN.{length, take, drop, replicate, getD}
 use lib.IntN.{ℤ, pos}
 use lib.Signed.{mag}
 use lib.Dec.{T}
-use Rattle.format.specs.Bytes.{Bytes, All, pairs}
+use Rattle.format.specs.Bytes.{Bytes, All, every, among, pairs}
 use Rattle.format.specs.Doc.{Doc, Group, write}
 use Rattle.format.specs.Cwr22.{cwr22}
 use Rattle.format.specs.WellFormed.{WellFormed}
 use Rattle.format.specs.Structure.{Answer, passed, refused, mostRecords}
-use Rattle.format.specs.Tree.{Tree}
+use Rattle.format.specs.Tree.{Tree, span, isHead, isDetail, leaves}
+use Rattle.format.specs.Lines.{lines}
+use Rattle.format.specs.Numbering.{recordsIn}
 use Rattle.format.specs.Claims.{Limits, Content, lengths, isStructural, Near}
 use Rattle.rules.specs.Tables.{Tables, languageSize, societySize, categorySize, rightTable}
 use Rattle.rules.specs.Values.{fullShare, largestTolerance}
-use Rattle.rules.specs.Records.{any}
+use Rattle.rules.specs.Records.{only, any}
+use Rattle.rules.specs.Territories.{Territory, territoriesIn, noGroup, codesOf, rightTerritories, names, hasMembers}
+use Rattle.rules.specs.Collection.{isParty, isClaim, excludes, parties, is47, is48, shareIn, totalIn, firstOver}
 use Rattle.rules.specs.Totals.{Right, PR, writersTotal, wholeTotal, is1, is3}
 use Rattle.rules.specs.Findings.{places}
 use Rattle.rules.specs.Works.{namedType, transactionFindings}
-use Rattle.rules.specs.Verdicts.{joined, findingBytes, fileFindings, fileVerdicts}
-use Rattle.rules.specs.Outcome.{Outcome, check, content, shortTolerance}
+use Rattle.rules.specs.Verdicts.{joined, findingBytes, fileFindingsBy, fileVerdictsBy, fileFindings, fileVerdicts}
+use Rattle.rules.specs.Outcome.{Outcome, check, answer, enough, content, shortTolerance}
+use Rattle.rules.specs.WithTerritories.{claimedFindings, nowhere, answerWith, checkClaims}
 use Rattle.rules.specs.First.{isGrave, ofEach, firstRejected, refusedAs, nothing, at, seen, first}
 use Rattle.rules.specs.Sheet.{Taken, sheetTolerance, answerTo, Missed, carries, Sheet, sheetOf, mostFiles, add}
 
@@ -140,6 +147,84 @@ pub record Tolerances : Type 0 where
 -- together too little (3).
 abbrev pub StillRejected : Type 0
 StillRejected = (t : ℕ) (ds : List Bytes) → t ≤ largestTolerance → 1 ≤ writersTotal PR ds → writersTotal PR ds ≤ t → (is1 t ds || is3 t ds) ≡ true
+
+-- ---- collection shares by territory
+
+-- the group at position g holds the territory at position i, directly or through others
+abbrev pub groupAt : List Territory → ℕ → ℕ
+groupAt xs i = getD (map (λ (x : Territory). x .group) xs) i noGroup
+
+pub data Holds (xs : List Territory) (g : ℕ) : ℕ → Type 0 where
+  directly : (i : ℕ) → groupAt xs i ≡ g → Holds xs g i
+  through : (i : ℕ) → Holds xs g (groupAt xs i) → Holds xs g i
+
+abbrev pub codeAt : List Territory → ℕ → Bytes
+codeAt xs i = getD (codesOf xs) i []
+
+-- the total of a right in the territory at position i, which has no members, is over 10000 + t
+pub record IsOver (xs : List Territory) (t : ℕ) (ds : List Bytes) (i : ℕ) : Type 0 where
+  pub inside : i < length xs
+  pub memberless : hasMembers xs i ≡ false
+  pub right : Right
+  pub over : fullShare + t < totalIn xs right (getD (names xs) i []) ds
+
+-- record i is a header whose transaction has more than c claims
+abbrev pub Crowded : ℕ → List Bytes → ℕ → Type 0
+Crowded c rs i = (isHead cwr22 (getD rs i []) ≡ true) × (c < length (only isClaim (span (isDetail cwr22) (drop (suc i) rs))))
+
+pub record Collected : Type 0 where
+  -- a claim speaks of a territory by its code or by that of a group that holds it, and by no other
+  pub named : (table : Bytes) (i : ℕ) (c : Bytes) → rightTerritories table ≡ true → i < length (territoriesIn table)
+      → among c (getD (names (territoriesIn table)) i []) ≡ true
+      ↔ ((codeAt (territoriesIn table) i ≡ c)
+      ⊎ ((g : ℕ) × (g < length (territoriesIn table)) × Holds (territoriesIn table) g i × (codeAt (territoriesIn table) g ≡ c)))
+  -- 47 stands exactly where some right is over in some territory without members,
+  pub exactly : (xs : List Territory) (t : ℕ) (ds : List Bytes) → is47 xs t ds ≡ true ↔ ((i : ℕ) × IsOver xs t ds i)
+  -- and the first of these is told
+  pub first : (xs : List Territory) (t : ℕ) (ds : List Bytes) (i : ℕ) → firstOver xs t ds ≡ some i
+      → IsOver xs t ds i × ((j : ℕ) → j < i → IsOver xs t ds j → ⊥)
+  -- a claim more is in one party at most: no other has other claims
+  pub one-party : (ds es : List Bytes) (r : Bytes) → isParty r ≡ false
+      → (k : ℕ) × ((j : ℕ) → j ≢ k → getD (parties (ds ++ r ∷ es)) j [] ≡ getD (parties (ds ++ es)) j [])
+  -- one with 48 changes no share, and an exclude makes none larger
+  pub ignored : (xs : List Territory) (right : Right) (ns cs : List Bytes) (r : Bytes) (more : List Bytes) → is48 xs r ≡ true
+      → shareIn xs right ns (cs ++ r ∷ more) ≡ shareIn xs right ns (cs ++ more)
+  pub excluded : (xs : List Territory) (right : Right) (ns cs : List Bytes) (r : Bytes) (more : List Bytes) → excludes r ≡ true
+      → shareIn xs right ns (cs ++ r ∷ more) ≤ shareIn xs right ns (cs ++ more)
+  -- a check without a table finds neither 47 nor 48; with one, everything else is found as without,
+  pub never : (tables : Tables) (t : ℕ) (d : Tree) (k n : ℕ) → 47 ≤ n → carries n (getD (fileFindings tables t d) k []) ≡ false
+  pub beside : (tables : Tables) (xs : List Territory) (t : ℕ) (d : Tree) (k n : ℕ) → n < 47
+      → carries n (getD (fileFindingsBy (claimedFindings tables xs t) d) k []) ≡ carries n (getD (fileFindings tables t d) k [])
+  -- and where no record is a claim, nothing else: the bytes and the verdicts are the same
+  pub no-claims : (tables : Tables) (xs : List Territory) (t : ℕ) (d : Tree) → every (λ (r : Bytes). not (isClaim r)) (leaves d) ≡ true
+      → (findingBytes (fileFindingsBy (claimedFindings tables xs t) d) ≡ findingBytes (fileFindings tables t d))
+      × (fileVerdictsBy (claimedFindings tables xs t) d ≡ fileVerdicts tables t d)
+  -- 14 stands only at the first header whose transaction has more claims than the list has entries
+  pub crowded : (tables : Tables) (table : Bytes) (t : ℕ) (f : Bytes) (room : ℕ → Bool) (c i : ℕ)
+      → answerWith tables table t f room c ≡ refused 14 i
+      → Crowded c (recordsIn (lines f)) i × ((j : ℕ) → j < i → Crowded c (recordsIn (lines f)) j → ⊥)
+  -- with a right table and a list that is long enough, the answer is the check's without a table
+  pub same-answer : (tables : Tables) (table : Bytes) (t : ℕ) (f : Bytes) (v g c : ℕ) → rightTerritories table ≡ true
+      → ((i : ℕ) → Crowded c (recordsIn (lines f)) i → ⊥) → answerWith tables table t f (enough v g) c ≡ answer tables t f v g
+  -- a refusal's number is 1 to 11, 13 or 14
+  pub numbers : (tables : Tables) (table : Bytes) (t : ℕ) (f : Bytes) (room : ℕ → Bool) (c n i : ℕ)
+      → answerWith tables table t f room c ≡ refused n i → ((1 ≤ n) × (n ≤ 11)) ⊎ ((n ≡ 13) ⊎ (n ≡ 14))
+
+-- whatever the entries of the list are, of which one is all zeros
+pub record Lends {A : Type 0} (zero : A) : Type 0 where
+  -- a refused call leaves both buffers and the list as they were,
+  pub untouched : (tables : Tables) (table : Bytes) (t : ℕ) (f : Bytes) (cs : List A) (v g : Bytes) (n i : ℕ)
+      → checkClaims zero tables table t f cs v g .answer ≡ refused n i
+      → checkClaims zero tables table t f cs v g ≡ record { answer = refused n i; over = nowhere; verdicts = v; findings = g; claims = cs }
+  -- one that passes leaves every entry of the list all zeros,
+  pub cleared : (tables : Tables) (table : Bytes) (t : ℕ) (f : Bytes) (cs : List A) (v g : Bytes) (k m n : ℕ)
+      → checkClaims zero tables table t f cs v g .answer ≡ passed k m n
+      → checkClaims zero tables table t f cs v g .claims ≡ replicate (length cs) zero
+  -- and neither buffer nor list grows
+  pub as-long : (tables : Tables) (table : Bytes) (t : ℕ) (f : Bytes) (cs : List A) (v g : Bytes)
+      → (length (checkClaims zero tables table t f cs v g .verdicts) ≡ length v)
+      × (length (checkClaims zero tables table t f cs v g .findings) ≡ length g)
+      × (length (checkClaims zero tables table t f cs v g .claims) ≡ length cs)
 
 -- ---- the catalogue sheet
 
