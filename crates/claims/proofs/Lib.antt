@@ -1,0 +1,4 @@
+pub mod Totals
+pub mod Work
+pub mod Counting
+pub mod Overs

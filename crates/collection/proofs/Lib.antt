@@ -1,0 +1,7 @@
+-- That the pass over a checked file's records makes of its buffers what the check with a territory table is defined to leave.
+pub mod SetBits
+pub mod Leaves
+pub mod Raising
+pub mod Marking
+pub mod Turns
+pub mod WholeFile

@@ -1,0 +1,1 @@
+// The collection shares of a file's transactions.
