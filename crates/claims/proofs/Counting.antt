@@ -19,7 +19,8 @@ use Rattle.totals.specs.declared.Rights.{Rights}
 use Rattle.totals.specs.Sums.{rights, AtMost}
 use Rattle.territories.specs.Positions.{placeOf, groupsOf}
 use Rattle.territories.proofs.Entries.{code-is}
-use Rattle.territories.proofs.Laws.{only-place, at-place, names-at, length-names, length-codes, by-group, RightTable, right-table, length-territories, within}
+use Rattle.rules.proofs.Names.{names-at, length-names, by-group, RightTable, right-table, length-territories}
+use Rattle.territories.proofs.Laws.{only-place, at-place, length-codes, within}
 use Rattle.claims.specs.declared.Claim.{Claim}
 use Rattle.claims.specs.Entries.{gives, isIgnored, begins, partyWith, speaks, givesWith, comesTo}
 use Rattle.claims.specs.Work.{wordOf, current, closed, ofRight, Placed, Bounded, Stands, Counted}

@@ -19,7 +19,7 @@ use Rattle.rules.specs.Territories.{Territory, territoryOf, territoriesIn, noGr
 use Rattle.rules.specs.Collection.{isOver, overFrom, firstOver}
 use Rattle.territories.specs.Positions.{groupsOf}
 use Rattle.territories.proofs.Entries.{map-at}
-use Rattle.territories.proofs.Laws.{length-names}
+use Rattle.rules.proofs.Names.{length-names}
 use Rattle.claims.specs.declared.Claim.{Claim}
 use Rattle.claims.specs.Entries.{entriesFrom, comesTo, isOverIn, isOverAt, firstFrom, overIn}
 use Rattle.claims.specs.Work.{current, closed, Bounded, Counted, Held}

@@ -2,6 +2,7 @@
 -- Assumes nothing.
 use Prim.Native.Nat.{ℕ, suc, _+_}
 use native.Mathlib.Omega.{arith}
+use mathlib.Core.Bool.{Bool}
 use mathlib.Core.Path.{_≡_, refl, sym, ap, _∙_}
 use mathlib.Core.List.{List, [], _∷_, _++_, map}
 use lib.ListN.{length, length-append, length-map}
@@ -18,7 +19,7 @@ use Rattle.format.proofs.At22.{grows-22}
 use Rattle.rules.specs.Tables.{Tables}
 use Rattle.rules.specs.Findings.{fieldFindings, ownFindings, larger, worst}
 use Rattle.rules.specs.Works.{namedType, headerFindings, detailsFrom, transactionFindings}
-use Rattle.rules.specs.Verdicts.{joined, raised, groupFindings, groupFindingsBy, fileFindings, fileFindingsBy, transactionVerdicts, transactionVerdictsBy, groupVerdicts, groupVerdictsBy, fileVerdicts, fileVerdictsBy}
+use Rattle.rules.specs.Verdicts.{joined, raised, groupFindings, groupFindingsBy, fileFindings, fileFindingsBy, transactionVerdictsBy, groupVerdictsBy, fileVerdicts, fileVerdictsBy}
 use Rattle.rules.specs.Outcome.{content}
 
 -- ---- the leaves of a tree
@@ -57,7 +58,41 @@ length-raised : (least : ℕ) (verdicts : List ℕ) → length (raised least ver
 unfolding raised
 length-raised least verdicts = length-map verdicts (larger least)
 
--- ---- findings and verdicts
+-- ---- findings and verdicts, where each record of a transaction has a set
+
+module _ (sets : Bytes → Transaction → List (List Bool))
+    (each : (named : Bytes) (x : Transaction) → length (sets named x) ≡ suc (length (x .details))) where
+  pub group-findings-by : (g : Group) → length (groupFindingsBy sets g) ≡ recordsG g
+  unfolding groupFindingsBy
+  group-findings-by g =
+      let named = namedType (g .opening) in
+      around [] (joined (sets named) (g .transactions)) [] ∙ ap (λ n. n + 2) (each-transaction (sets named) (each named) (g .transactions))
+
+  pub findings-all-by : (d : Doc) → length (fileFindingsBy sets d) ≡ recordsAll d
+  unfolding fileFindingsBy
+  findings-all-by d =
+      around [] (joined (groupFindingsBy sets) (d .groups)) []
+      ∙ ap (λ n. n + 2) (each-group (groupFindingsBy sets) group-findings-by (d .groups))
+
+  transaction-verdicts-by : (named : Bytes) (x : Transaction) → length (transactionVerdictsBy sets named x) ≡ suc (length (x .details))
+  unfolding transactionVerdictsBy
+  transaction-verdicts-by named x = length-raised _ (map worst (sets named x)) ∙ length-map (sets named x) worst ∙ each named x
+
+  group-verdicts-by : (g : Group) → length (groupVerdictsBy sets g) ≡ recordsG g
+  unfolding groupVerdictsBy
+  group-verdicts-by g =
+      let verdicts = transactionVerdictsBy sets (namedType (g .opening)) in
+      length-raised _ (0 ∷ joined verdicts (g .transactions) ++ 0 ∷ [])
+      ∙ around 0 (joined verdicts (g .transactions)) 0
+      ∙ ap (λ n. n + 2) (each-transaction verdicts (transaction-verdicts-by (namedType (g .opening))) (g .transactions))
+
+  pub verdicts-all-by : (d : Doc) → length (fileVerdictsBy sets d) ≡ recordsAll d
+  unfolding fileVerdictsBy
+  verdicts-all-by d =
+      around 0 (joined (groupVerdictsBy sets) (d .groups)) 0
+      ∙ ap (λ n. n + 2) (each-group (groupVerdictsBy sets) group-verdicts-by (d .groups))
+
+-- ---- as in a check without a territory table
 
 module _ (tables : Tables) (t : ℕ) where
   -- a set has a place for each finding
@@ -78,38 +113,13 @@ module _ (tables : Tables) (t : ℕ) where
   transaction-findings named x = ap suc (each-detail [] (x .details))
 
   pub group-findings : (g : Group) → length (groupFindings tables t g) ≡ recordsG g
-  unfolding groupFindingsBy
-  group-findings g =
-      let named = namedType (g .opening) in
-      around [] (joined (transactionFindings tables t named) (g .transactions)) []
-      ∙ ap (λ n. n + 2) (each-transaction (transactionFindings tables t named) (transaction-findings named) (g .transactions))
+  group-findings = group-findings-by (transactionFindings tables t) transaction-findings
 
   pub findings-all : (d : Doc) → length (fileFindings tables t d) ≡ recordsAll d
-  unfolding fileFindingsBy
-  findings-all d =
-      around [] (joined (groupFindings tables t) (d .groups)) []
-      ∙ ap (λ n. n + 2) (each-group (groupFindings tables t) group-findings (d .groups))
-
-  transaction-verdicts : (named : Bytes) (x : Transaction) → length (transactionVerdicts tables t named x) ≡ suc (length (x .details))
-  unfolding transactionVerdictsBy
-  transaction-verdicts named x =
-      length-raised _ (map worst (transactionFindings tables t named x))
-      ∙ length-map (transactionFindings tables t named x) worst
-      ∙ transaction-findings named x
-
-  group-verdicts : (g : Group) → length (groupVerdicts tables t g) ≡ recordsG g
-  unfolding groupVerdictsBy
-  group-verdicts g =
-      let named = namedType (g .opening) in
-      length-raised _ (0 ∷ joined (transactionVerdicts tables t named) (g .transactions) ++ 0 ∷ [])
-      ∙ around 0 (joined (transactionVerdicts tables t named) (g .transactions)) 0
-      ∙ ap (λ n. n + 2) (each-transaction (transactionVerdicts tables t named) (transaction-verdicts named) (g .transactions))
+  findings-all = findings-all-by (transactionFindings tables t) transaction-findings
 
   pub verdicts-all : (d : Doc) → length (fileVerdicts tables t d) ≡ recordsAll d
-  unfolding fileVerdictsBy
-  verdicts-all d =
-      around 0 (joined (groupVerdicts tables t) (d .groups)) 0
-      ∙ ap (λ n. n + 2) (each-group (groupVerdicts tables t) group-verdicts (d .groups))
+  verdicts-all = verdicts-all-by (transactionFindings tables t) transaction-findings
 
 -- ---- of a file that passes
 
@@ -122,6 +132,9 @@ module _ (f : Bytes) (k m n : ℕ) (e : structure cwr22 f ≡ passed k m n) wher
       let same : recordsAll (tree cwr22 (r .rs)) ≡ n = cc (g .same-counts) in
       rw (r .is-lines) (same, g .same-leaves, lines-pairs f (r .rs) (r .is-lines))
 
+  pub all-counted : recordsAll (content f) ≡ n
+  all-counted = counted .0
+
   -- as many records as are answered
   pub records-counted : length (recordsIn (lines f)) ≡ n
   records-counted = ap length (sym (counted .1)) ∙ leaves-counted (content f) ∙ counted .0
@@ -132,7 +145,7 @@ module _ (f : Bytes) (k m n : ℕ) (e : structure cwr22 f ≡ passed k m n) wher
 
   module _ (tables : Tables) (t : ℕ) where
     pub verdicts-each : length (fileVerdicts tables t (content f)) ≡ n
-    verdicts-each = verdicts-all tables t (content f) ∙ counted .0
+    verdicts-each = verdicts-all tables t (content f) ∙ all-counted
 
     pub findings-each : length (fileFindings tables t (content f)) ≡ n
-    findings-each = findings-all tables t (content f) ∙ counted .0
+    findings-each = findings-all tables t (content f) ∙ all-counted

@@ -91,7 +91,7 @@ module _ (tables : Tables) (t : ℕ) (f : Bytes) where
       let front = checks .entries tables t f v g k m n e .1 in
       let count = checks .one-each tables t f v g k m n e .1 in
       first-let-in k m n (passed-admitted tables t f v g k m n e .0)
-      ∙ ap seen (sym (same-first sets n (check tables t f v g .findings) count front (small-file tables t (content f)) (content f)))
+      ∙ ap seen (sym (same-first sets n (check tables t f v g .findings) count front (small-file tables t 64 (omega arith) (content f)) (content f)))
 
   by-1-to-10 : By (λ n. (1 ≤ n) × (n ≤ 10)) (admission tables t f)
   by-1-to-10 = admission-by (λ n. (1 ≤ n) × (n ≤ 10)) tables t f (λ e. (omega arith, omega arith)) (omega arith)

@@ -3,7 +3,9 @@ pub mod Types
 pub mod Fields
 pub mod Order
 pub mod Joined
+pub mod Placewise
 pub mod Each
+pub mod Names
 pub mod Outcomes
 pub mod Starred
 pub mod Made
@@ -18,6 +20,11 @@ pub mod First
 pub mod Tolerances
 pub mod SmallChange
 pub mod Counts
+pub mod Parties
+pub mod FirstOver
+pub mod Beside
+pub mod Territories
+pub mod TerritoryExamples
 pub mod Together
 pub mod Room
 pub mod Sheets

@@ -21,7 +21,7 @@ use Rattle.format.proofs.At22.{demand3-22, nearby-22}
 use Rattle.rules.specs.Tables.{Tables, languageSize, societySize, categorySize, rightTable}
 use Rattle.rules.specs.Values.{largestTolerance}
 use Rattle.rules.specs.Verdicts.{findingBytes, fileFindings, fileVerdicts}
-use Rattle.rules.specs.Outcome.{enough, admission, answer, content, check, shortTolerance}
+use Rattle.rules.specs.Outcome.{lentRight, enough, admission, answer, content, check, shortTolerance}
 use Rattle.rules.specs.Claims.{InOrder, Checks}
 use Rattle.rules.proofs.Joined.{length-findings}
 use Rattle.rules.proofs.Each.{pairs-counted, verdicts-each, findings-each}
@@ -35,20 +35,18 @@ pub record Orderly (tables : Tables) (t : ℕ) : Type 0 where
   pub societies : rightTable societySize (tables .societies) ≡ true
   pub categories : rightTable categorySize (tables .categories) ≡ true
 
-module _ (tables : Tables) (t : ℕ) (f : Bytes) where
-  -- then the structure decides
-  pub orderly : Orderly tables t → admission tables t f ≡ structure cwr22 f
-  unfolding admission
-  orderly o =
+module _ (tables : Tables) (t : ℕ) (rest : Answer) where
+  -- then what follows decides
+  lent-orderly : Orderly tables t → lentRight tables t rest ≡ rest
+  lent-orderly o =
       untested 1 0 (leb t largestTolerance) _ (le→leb t largestTolerance (o .tolerance))
       ∙ untested 2 _ (rightTable languageSize (tables .languages)) _ (is-T _ (o .languages))
       ∙ untested 2 _ (rightTable societySize (tables .societies)) _ (is-T _ (o .societies))
       ∙ untested 2 _ (rightTable categorySize (tables .categories)) _ (is-T _ (o .categories))
 
-  -- nothing is let in else, and what is has the structure's numbers
-  pub admitted : (k m n : ℕ) → admission tables t f ≡ passed k m n → Orderly tables t × (structure cwr22 f ≡ passed k m n)
-  unfolding admission
-  admitted k m n e =
+  -- and nothing passes else
+  pub lent-passed : (k m n : ℕ) → lentRight tables t rest ≡ passed k m n → Orderly tables t × (rest ≡ passed k m n)
+  lent-passed k m n e =
       let (tolerance, e1) = tested 1 0 (leb t largestTolerance) _ k m n e in
       let (languages, e2) = tested 2 _ (rightTable languageSize (tables .languages)) _ k m n e1 in
       let (societies, e3) = tested 2 _ (rightTable societySize (tables .societies)) _ k m n e2 in
@@ -61,6 +59,17 @@ module _ (tables : Tables) (t : ℕ) (f : Bytes) where
         },
         e4,
       )
+
+module _ (tables : Tables) (t : ℕ) (f : Bytes) where
+  -- the structure decides
+  pub orderly : Orderly tables t → admission tables t f ≡ structure cwr22 f
+  unfolding admission
+  orderly = lent-orderly tables t (structure cwr22 f)
+
+  -- nothing is let in else, and what is has the structure's numbers
+  pub admitted : (k m n : ℕ) → admission tables t f ≡ passed k m n → Orderly tables t × (structure cwr22 f ≡ passed k m n)
+  unfolding admission
+  admitted = lent-passed tables t (structure cwr22 f)
 
   -- a refusal on structure is the structure's
   pub admission-structural : (n i : ℕ) → admission tables t f ≡ refused n i → T (isStructural n) → structure cwr22 f ≡ refused n i
@@ -166,16 +175,19 @@ module _ (P : ℕ → Type 0) where
   test-by n i true a p h = h
   test-by n i false a p h = p refl
 
+  module _ (tables : Tables) (t : ℕ) (p1 : leb t largestTolerance ≡ false → P 1) (p2 : P 2) where
+    pub lent-by : (rest : Answer) → By P rest → By P (lentRight tables t rest)
+    lent-by rest h =
+        test-by 1 0 (leb t largestTolerance) _ p1
+        (refusal-by P 2 (unless (rightTable languageSize (tables .languages)) _) _ p2
+        (refusal-by P 2 (unless (rightTable societySize (tables .societies)) _) _ p2
+        (refusal-by P 2 (unless (rightTable categorySize (tables .categories)) _) rest p2 h)))
+
   module _ (tables : Tables) (t : ℕ) (f : Bytes) (p1 : leb t largestTolerance ≡ false → P 1)
       (rest : All P (2 ∷ 3 ∷ 4 ∷ 5 ∷ 6 ∷ 7 ∷ 8 ∷ 9 ∷ 10 ∷ [])) where
     pub admission-by : By P (admission tables t f)
     unfolding admission
-    admission-by =
-        test-by 1 0 (leb t largestTolerance) _ p1
-        (refusal-by P 2 (unless (rightTable languageSize (tables .languages)) _) _ (rest .0)
-        (refusal-by P 2 (unless (rightTable societySize (tables .societies)) _) _ (rest .0)
-        (refusal-by P 2 (unless (rightTable categorySize (tables .categories)) _) _ (rest .0)
-        (structure-by cwr22 P (rest .1) f))))
+    admission-by = lent-by tables t p1 (rest .0) (structure cwr22 f) (structure-by cwr22 P (rest .1) f)
 
     answer-by : (v g : ℕ) → P 11 → By P (answer tables t f v g)
     unfolding answer

@@ -23,30 +23,30 @@ use Rattle.rules.proofs.Found.{first-map, any-map, each-map}
 
 -- ---- no set is too large
 
--- 47 findings are told apart, and a set has 64 places
-abbrev Fits : List Bool → Type 0
-Fits set = length set ≤ 64
+abbrev pub Small : ℕ → List (List Bool) → Type 0
+Small most = All (λ set. length set ≤ most)
 
-abbrev Small : List (List Bool) → Type 0
-Small = All Fits
+-- 47 findings are told apart without a territory table
+module _ (tables : Tables) (t most : ℕ) (fits : 47 ≤ most) where
+  abbrev Fits : List Bool → Type 0
+  Fits set = length set ≤ most
 
-module _ (tables : Tables) (t : ℕ) where
-  small-details : (before ds : List Bytes) → Small (detailsFrom tables before ds)
+  small-details : (before ds : List Bytes) → Small most (detailsFrom tables before ds)
   unfolding ownFindings fieldFindings
   small-details before [] = tt
   small-details before (r ∷ rs) = (omega arith, small-details (before ++ r ∷ []) rs)
 
-  small-transaction : (named : Bytes) (x : Transaction) → Small (transactionFindings tables t named x)
+  small-transaction : (named : Bytes) (x : Transaction) → Small most (transactionFindings tables t named x)
   unfolding transactionFindings headerFindings fieldFindings
   small-transaction named x = (omega arith, small-details [] (x .details))
 
-  small-group : (g : Group) → Small (groupFindings tables t g)
+  small-group : (g : Group) → Small most (groupFindings tables t g)
   unfolding groupFindingsBy
   small-group g =
       let f = transactionFindings tables t (namedType (g .opening)) in
       (omega arith, All-append Fits (joined f (g .transactions)) ([] ∷ []) (joined-all Fits f (small-transaction _) (g .transactions)) (omega arith, tt))
 
-  pub small-file : (d : Tree) → Small (fileFindings tables t d)
+  pub small-file : (d : Tree) → Small most (fileFindings tables t d)
   unfolding fileFindingsBy
   small-file d =
       let f = groupFindings tables t in
@@ -54,7 +54,7 @@ module _ (tables : Tables) (t : ℕ) where
 
 -- ---- read back
 
--- a set read from its bytes is as grave
+-- a set read from its bytes, which have 64 places, is as grave
 grave-read : (set : List Bool) → length set ≤ 64 → isGrave (joined (places 8) (bytesOf 8 (setOf set))) ≡ isGrave set
 unfolding isGrave
 grave-read set fits =
@@ -65,7 +65,7 @@ front-8 : (n : ℕ) (rest : Bytes) → (take 8 (bytesOf 8 n ++ rest) ≡ bytesOf
 unfolding bytesOf
 front-8 n rest = (refl, refl)
 
-graves-read : (sets : List (List Bool)) (rest : Bytes) → Small sets
+graves-read : (sets : List (List Bool)) (rest : Bytes) → Small 64 sets
     → map isGrave (setsIn (length sets) (findingBytes sets ++ rest)) ≡ map isGrave sets
 unfolding findingBytes
 graves-read [] rest h = refl
@@ -86,13 +86,13 @@ module _ (sets : List (List Bool)) (n : ℕ) (buffer : Bytes) (count : length se
   whole : buffer ≡ findingBytes sets ++ drop (8 * n) buffer
   whole = sym (take-append-drop (8 * n) buffer) ∙ ap (λ (b : Bytes). b ++ drop (8 * n) buffer) front
 
-  same-graves : Small sets → map isGrave (setsIn n buffer) ≡ map isGrave sets
+  same-graves : Small 64 sets → map isGrave (setsIn n buffer) ≡ map isGrave sets
   same-graves h =
       ap (λ (b : Bytes). map isGrave (setsIn n b)) whole
       ∙ ap (λ (r : ℕ). map isGrave (setsIn r (findingBytes sets ++ drop (8 * n) buffer))) (sym count)
       ∙ graves-read sets (drop (8 * n) buffer) h
 
-  pub same-first : Small sets → (d : Tree) → firstRejected d (setsIn n buffer) ≡ firstRejected d sets
+  pub same-first : Small 64 sets → (d : Tree) → firstRejected d (setsIn n buffer) ≡ firstRejected d sets
   same-first h d =
       graves-decide d (setsIn n buffer)
       ∙ ap (λ (l : List Bool). firstAt (any (λ b. b)) (ofEach d l)) (same-graves h)

@@ -1,6 +1,6 @@
 -- A smaller tolerance finds whatever a larger one finds, and the short form's, which is 0, lets no hundredth pass (`Tolerances` in
 -- specs/Claims). Assumes nothing.
-use Prim.Native.Nat.{ℕ, zero, suc, _+_, _-_, _≤_}
+use Prim.Native.Nat.{ℕ, suc, _+_, _-_, _≤_}
 use native.Mathlib.Omega.{arith}
 use mathlib.Core.Path.{_≡_, refl}
 use mathlib.Core.Bool.{Bool, true, false, cond, not, false≢true, _&&_, _||_, or-true}
@@ -22,50 +22,8 @@ use Rattle.rules.specs.Works.{namedType, is0, headerFindings, detailsFro
 use Rattle.rules.specs.Verdicts.{joined, rejectsFrom, rejects, raised, isStray, groupFindings, groupFindingsBy, fileFindings, fileFindingsBy, transactionVerdicts, transactionVerdictsBy, groupVerdicts, groupVerdictsBy, fileVerdicts, fileVerdictsBy}
 use Rattle.rules.specs.Outcome.{admission, answer, check, shortTolerance}
 use Rattle.rules.specs.Claims.{Tolerances}
+use Rattle.rules.proofs.Placewise.{Placewise, alike, at-place, enclosed, mapped}
 use Rattle.rules.proofs.Counts.{larger-max}
-
--- ---- lists compared place by place
-
-module _ {A : Type 0} (R : A → A → Type 0) where
-  abbrev Placewise : List A → List A → Type 0
-  Placewise [] [] = Unit {0}
-  Placewise [] (y ∷ ys) = ⊥
-  Placewise (x ∷ xs) [] = ⊥
-  Placewise (x ∷ xs) (y ∷ ys) = R x y × Placewise xs ys
-
-  module _ (same : (x : A) → R x x) where
-    alike : (xs : List A) → Placewise xs xs
-    alike [] = tt
-    alike (x ∷ xs) = (same x, alike xs)
-
-    at-place : (a : A) (xs ys : List A) → Placewise xs ys → (k : ℕ) → R (getD xs k a) (getD ys k a)
-    at-place a [] [] h k = same a
-    at-place a [] (y ∷ ys) h k = absurd h
-    at-place a (x ∷ xs) [] h k = absurd h
-    at-place a (x ∷ xs) (y ∷ ys) h zero = h .0
-    at-place a (x ∷ xs) (y ∷ ys) h (suc k) = at-place a xs ys (h .1) k
-
-  appended : (xs ys us vs : List A) → Placewise xs ys → Placewise us vs → Placewise (xs ++ us) (ys ++ vs)
-  appended [] [] us vs h k = k
-  appended [] (y ∷ ys) us vs h k = absurd h
-  appended (x ∷ xs) [] us vs h k = absurd h
-  appended (x ∷ xs) (y ∷ ys) us vs h k = (h .0, appended xs ys us vs (h .1) k)
-
-  all-joined : {B : Type 0} (f g : B → List A) → ((x : B) → Placewise (f x) (g x)) → (xs : List B) → Placewise (joined f xs) (joined g xs)
-  all-joined f g h [] = tt
-  all-joined f g h (x ∷ xs) = appended (f x) (g x) (joined f xs) (joined g xs) (h x) (all-joined f g h xs)
-
-  -- between two that never differ, as those of a group's or a file's control records do not
-  enclosed : {B : Type 0} {a : A} → R a a → (f g : B → List A) → ((x : B) → Placewise (f x) (g x)) → (xs : List B)
-      → Placewise (a ∷ joined f xs ++ a ∷ []) (a ∷ joined g xs ++ a ∷ [])
-  enclosed {a = a} same f g h xs = (same, appended (joined f xs) (joined g xs) (a ∷ []) (a ∷ []) (all-joined f g h xs) (same, tt))
-
-mapped : {A B : Type 0} (R : A → A → Type 0) (S : B → B → Type 0) (f g : A → B) → ((x y : A) → R x y → S (f x) (g y)) → (xs ys : List A)
-    → Placewise R xs ys → Placewise S (map f xs) (map g ys)
-mapped R S f g h [] [] k = tt
-mapped R S f g h [] (y ∷ ys) k = absurd k
-mapped R S f g h (x ∷ xs) [] k = absurd k
-mapped R S f g h (x ∷ xs) (y ∷ ys) k = (h x y (k .0), mapped R S f g h xs ys (k .1))
 
 -- ---- tests
 

@@ -12,7 +12,7 @@ use Rattle.format.specs.Bytes.{Bytes, sameBytes}
 use Rattle.rules.specs.Tables.{firstEntries, entries}
 use Rattle.rules.specs.Territories.{Territory, territoryOf, territoriesIn, codesOf, noGroup}
 use Rattle.territories.specs.Positions.{groupsOf}
-use Rattle.territories.proofs.Laws.{counted, length-territories}
+use Rattle.rules.proofs.Names.{counted, length-territories}
 
 -- ---- any entries
 

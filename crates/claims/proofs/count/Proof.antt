@@ -10,7 +10,8 @@ use lib.Dec.{eqb}
 use lib.ListN.{length}
 use Rattle.format.specs.Bytes.{Bytes}
 use Rattle.rules.specs.Territories.{territoriesIn}
-use Rattle.territories.proofs.Laws.{right-table, within}
+use Rattle.rules.proofs.Names.{right-table}
+use Rattle.territories.proofs.Laws.{within}
 use Rattle.claims.specs.declared.Claim.{Claim}
 use Rattle.claims.specs.Entries.{gives}
 use Rattle.claims.proofs.Counting.{Counting, counting-none, counting-bounded, counting-on, counting-all, counted-ignored, small-each, speaks-at}

@@ -7,7 +7,7 @@ use native.Mathlib.Omega.{arith}
 use borrow.Author.Needs.{needs}
 use lib.ListN.{length, length-replicate}
 use Rattle.rules.specs.Territories.{territoriesIn}
-use Rattle.territories.proofs.Laws.{right-table}
+use Rattle.rules.proofs.Names.{right-table}
 use Rattle.claims.specs.declared.Claim.{Claim}
 use Rattle.claims.specs.Entries.{isOverAt, firstFrom, overIn}
 use Rattle.claims.specs.Work.{Counted}

@@ -6,7 +6,8 @@ use borrow.Author.Needs.{needs}
 use lib.ListN.{getD}
 use Rattle.rules.specs.Territories.{territoriesIn, codesOf}
 use Rattle.territories.specs.Positions.{slotOf}
-use Rattle.territories.proofs.Laws.{length-territories, length-codes}
+use Rattle.rules.proofs.Names.{length-territories}
+use Rattle.territories.proofs.Laws.{length-codes}
 use Rattle.territories.proofs.Places.{again-from, not-again}
 use Rattle.territories.proofs.again.Statement.{statement}
 use Rattle.territories.proofs.again.Tie as tie

@@ -6,7 +6,8 @@ use borrow.Author.Needs.{needs}
 use lib.ListN.{length, drop, drop-of-length-le, length-replicate}
 use Rattle.rules.specs.Territories.{territoriesIn, codesOf, anyTwice}
 use Rattle.territories.specs.Positions.{hintCount}
-use Rattle.territories.proofs.Laws.{length-territories, length-codes}
+use Rattle.rules.proofs.Names.{length-territories}
+use Rattle.territories.proofs.Laws.{length-codes}
 use Rattle.territories.proofs.Places.{twice-stop, twice-on}
 use Rattle.territories.proofs.any_twice.Statement.{statement}
 use Rattle.territories.proofs.any_twice.Tie as tie

@@ -1,6 +1,6 @@
 -- `territories::count` meets its contract.
 use mathlib.Core.Path.{sym}
-use Rattle.territories.proofs.Laws.{length-territories}
+use Rattle.rules.proofs.Names.{length-territories}
 use Rattle.territories.proofs.count.Statement.{statement}
 use Rattle.territories.proofs.count.Tie as tie
 

@@ -3,7 +3,8 @@ use mathlib.Core.Path.{sym, _∙_}
 use native.Mathlib.Omega.{arith}
 use borrow.Author.Needs.{needs}
 use Rattle.rules.specs.Territories.{territoriesIn, codesOf}
-use Rattle.territories.proofs.Laws.{length-territories, length-codes, at-place, right-table}
+use Rattle.rules.proofs.Names.{length-territories, right-table}
+use Rattle.territories.proofs.Laws.{length-codes, at-place}
 use Rattle.territories.proofs.find.Statement.{statement}
 use Rattle.territories.proofs.find.Tie as tie
 

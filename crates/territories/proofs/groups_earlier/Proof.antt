@@ -6,7 +6,7 @@ use borrow.Author.Needs.{needs}
 use borrow.Author.Tests.{not-true, not-false}
 use lib.ListN.{length, drop, drop-of-length-le}
 use Rattle.rules.specs.Territories.{territoriesIn, groupsEarlier}
-use Rattle.territories.proofs.Laws.{length-territories}
+use Rattle.rules.proofs.Names.{length-territories}
 use Rattle.territories.proofs.Places.{groups-stop, groups-on}
 use Rattle.territories.proofs.groups_earlier.Statement.{statement}
 use Rattle.territories.proofs.groups_earlier.Tie as tie

@@ -6,7 +6,8 @@ use borrow.Author.Needs.{needs}
 use lib.ListN.{length, length-set}
 use Rattle.rules.specs.Territories.{territoriesIn, codesOf}
 use Rattle.territories.specs.Positions.{hintCount, slotOf}
-use Rattle.territories.proofs.Laws.{length-territories, length-codes}
+use Rattle.rules.proofs.Names.{length-territories}
+use Rattle.territories.proofs.Laws.{length-codes}
 use Rattle.territories.proofs.Places.{HintedTo, hint-on}
 use Rattle.territories.proofs.hint.Statement.{statement}
 use Rattle.territories.proofs.hint.Tie as tie

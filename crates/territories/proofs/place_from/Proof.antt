@@ -6,7 +6,8 @@ use borrow.Author.Needs.{needs}
 use lib.ListN.{drop}
 use Rattle.rules.specs.Territories.{territoriesIn, codesOf}
 use Rattle.territories.specs.Positions.{placeOf}
-use Rattle.territories.proofs.Laws.{length-territories, length-codes}
+use Rattle.rules.proofs.Names.{length-territories}
+use Rattle.territories.proofs.Laws.{length-codes}
 use Rattle.territories.proofs.Places.{place-here, place-on, place-end}
 use Rattle.territories.proofs.place_from.Statement.{statement}
 use Rattle.territories.proofs.place_from.Tie as tie

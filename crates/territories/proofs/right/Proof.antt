@@ -6,7 +6,7 @@ use lib.Dec.{eqb}
 use lib.ListN.{length}
 use Rattle.format.proofs.Tests.{both}
 use Rattle.rules.specs.Territories.{mostTerritories, rightTerritories}
-use Rattle.territories.proofs.Laws.{length-territories}
+use Rattle.rules.proofs.Names.{length-territories}
 use Rattle.territories.proofs.right.Statement.{statement}
 use Rattle.territories.proofs.right.Tie as tie
 
