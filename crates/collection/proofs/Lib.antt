@@ -5,3 +5,6 @@ pub mod Raising
 pub mod Marking
 pub mod Turns
 pub mod WholeFile
+pub mod Known
+pub mod Sorts
+pub mod Gone

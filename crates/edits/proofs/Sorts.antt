@@ -17,6 +17,7 @@ use Rattle.format.proofs.Tests.{by-cases, both, same→eq}
 use Rattle.rules.specs.Tables.{Tables}
 use Rattle.rules.specs.Records.{isType, isPublisher, isWriter}
 use Rattle.rules.specs.Other.{is24}
+use Rattle.rules.specs.Collection.{isPublishersClaim, isWritersClaim}
 use Rattle.rules.proofs.Types.{type-is, of-two}
 use Rattle.kinds.specs.Rows.{rowFor, sorts, sortOf}
 use Rattle.kinds.specs.declared.Row.{Row}
@@ -79,8 +80,16 @@ module _ (kind : Row) (r : Bytes) (its : kind ≡ rowFor (take 3 r)) where
   unfolding sortOf
   sort-instrument = rw or-false at (told 7 refl)
 
+  pub sort-publishers-claim : eqb (kind .sort) 10 ≡ isPublishersClaim r
+  unfolding sortOf
+  sort-publishers-claim = rw or-false at (told 9 refl)
+
+  pub sort-writers-claim : eqb (kind .sort) 11 ≡ isWritersClaim r
+  unfolding sortOf
+  sort-writers-claim = rw or-false at (told 10 refl)
+
   -- so a record of the sort is of one of its types, and one of another sort is not
-  of-kind : {k : ℕ} {is : Bool} → eqb (kind .sort) k ≡ is → kind .sort ≡ k → is ≡ true
+  pub of-kind : {k : ℕ} {is : Bool} → eqb (kind .sort) k ≡ is → kind .sort ≡ k → is ≡ true
   of-kind {k} told e = sym told ∙ eq-eqb (kind .sort) k e
 
   pub of-no-kind : {k : ℕ} {is : Bool} → eqb (kind .sort) k ≡ is → (kind .sort ≡ k → ⊥) → is ≡ false
@@ -163,3 +172,11 @@ module _ (kind : Row) (r : Bytes) (its : kind ≡ rowFor (take 3 r)) where
   pub rec-here : length r ≡ kind .length → kind .sort ≡ 7 → RecordingRecord r
   unfolding rowFor rows22
   rec-here l e = let is = of-kind sort-rec e in (sized "REC" 540 is refl l, is)
+
+  pub publishers-claim-long : length r ≡ kind .length → isPublishersClaim r ≡ true → length r ≡ 58
+  unfolding rowFor rows22
+  publishers-claim-long l is = either-sized "SPT" "OPT" 58 is refl refl l
+
+  pub writers-claim-long : length r ≡ kind .length → isWritersClaim r ≡ true → length r ≡ 52
+  unfolding rowFor rows22
+  writers-claim-long l is = either-sized "SWT" "OWT" 52 is refl refl l

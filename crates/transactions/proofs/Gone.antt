@@ -2,23 +2,19 @@
 use Prim.Native.Nat.{ℕ, _+_, _^_, _≤_, _<_}
 use native.Mathlib.Omega.{arith}
 use mathlib.Core.Path.{_≡_, refl, sym, ap, _∙_, subst}
-use mathlib.Core.Bool.{Bool, true, false}
+use mathlib.Core.Bool.{Bool}
 use mathlib.Core.List.{List, [], _∷_, _++_}
 use lib.ListN.{length, take, drop, length-append}
 use Rattle.format.specs.Bytes.{Bytes}
-use Rattle.format.specs.Table.{Class, head, detail}
+use Rattle.format.specs.Table.{head}
 use Rattle.format.specs.Cwr22.{cwr22}
-use Rattle.format.specs.Checks.{is, cls, code}
 use Rattle.format.specs.Structure.{mostRecords, firstOf}
 use Rattle.format.specs.Tree.{span, after, isDetail}
-use Rattle.format.proofs.Logic.{is-T}
 use Rattle.format.proofs.Tests.{by-cases}
-use Rattle.format.proofs.Tree.{is→eq}
 use Rattle.kinds.specs.declared.Row.{Row}
 use Rattle.kinds.specs.Rows.{rowFor}
-use Rattle.kinds.proofs.Laws.{class-is}
 use Rattle.structure.specs.Cursor.{Here}
-use Rattle.structure.proofs.Cursor.{three-left, placed-like}
+use Rattle.structure.proofs.Cursor.{three-left}
 use Rattle.chains.specs.Tallies.{Chains, Tallied, Small}
 use Rattle.chains.proofs.Laws.{small}
 use Rattle.totals.specs.Sums.{Below}
@@ -29,7 +25,7 @@ use Rattle.headers.specs.Headed.{Linked}
 use Rattle.transactions.specs.declared.Walk.{Walk}
 use Rattle.transactions.specs.Walk.{restAt, tailOf, Position, Outset, PastDetails}
 use Rattle.transactions.proofs.Levels.{Going, going-none, going-on, going-all, first-left, first-here}
-use Rattle.transactions.proofs.Standing.{front, is-detail}
+use Rattle.transactions.proofs.Standing.{front, detail-here, first-detail, next-here, no-detail}
 use Rattle.transactions.proofs.Sizes.{step}
 
 pub length-parted : (p : Bytes → Bool) (rs : List Bytes) → length (span p rs) + length (after p rs) ≡ length rs
@@ -124,18 +120,10 @@ module _ {f : Bytes} {m start : ℕ} {claim : List Bytes → Type 0} {c : Chains
   module _ {kind : Row} (its : kind ≡ rowFor (take 3 (drop (w .at) f))) where
     -- a detail, the first of those that are left
     module _ (p : kind .class ≡ 3) where
-      is-it : isDetail cwr22 r ≡ true
-      is-it = rw (is-detail here its p)
-
-      first-of : span (isDetail cwr22) (restAt f (w .at)) ≡ r ∷ span (isDetail cwr22) rs
-      first-of = ap (span (isDetail cwr22)) left ∙ rw is-it
-
       -- the walk stands after it, and knows it too
       module _ (v : Walk) (at : v .at ≡ w .at + kind .length + 2) (index : v .index ≡ w .index + 1) where
         after-it : Position f m (v .at) (v .index) head rs
-        after-it =
-            let after-detail = subst (λ (k : Class). Here f (w .at + kind .length + 2) k rs) (is-detail here its p) (front here its .next) in
-            rw (at, index) (step position refl (placed-like detail head refl (λ e k. k) after-detail))
+        after-it = rw (at, index) (step position refl (next-here here its p))
 
         next : restAt f (v .at) ≡ rs
         next = after-it .here .left
@@ -145,8 +133,8 @@ module _ {f : Bytes} {m start : ℕ} {claim : List Bytes → Type 0} {c : Chains
         one-more k t done' = (
           ds ++ r ∷ [],
           record {
-            going = going-on (span (isDetail cwr22)) f m start head (gone .going) r first-of after-it done';
-            rest = gone .rest ∙ ap (after (isDetail cwr22)) left ∙ rw is-it (ap (after (isDetail cwr22)) (sym next));
+            going = going-on (span (isDetail cwr22)) f m start head (gone .going) r (first-detail here its p) after-it done';
+            rest = gone .rest ∙ ap (after (isDetail cwr22)) left ∙ rw (detail-here here its p) (ap (after (isDetail cwr22)) (sym next));
             known = k;
             tallied = t;
           },
@@ -157,19 +145,12 @@ module _ {f : Bytes} {m start : ℕ} {claim : List Bytes → Type 0} {c : Chains
         fewer-left = omega (arith, ap length next, ap length left)
 
     -- no detail: all are done
-    no-detail : (kind .class ≡ 3 → ⊥) → isDetail cwr22 r ≡ false
-    no-detail n =
-        let placed = ap (λ (k : Row). k .class) (front here its .own) ∙ class-is r in
-        by-cases (isDetail cwr22 r)
-        (λ e. absurd (n (placed ∙ ap code (sym (is→eq detail (cls cwr22 r) (is-T (isDetail cwr22 r) e))))))
-        (λ e. e)
-
     module _ (n : kind .class ≡ 3 → ⊥) where
       all-details : span (isDetail cwr22) (restAt f start) ≡ ds
-      all-details = going-all (span (isDetail cwr22)) f m start head (gone .going) (ap (span (isDetail cwr22)) left ∙ rw (no-detail n))
+      all-details = going-all (span (isDetail cwr22)) f m start head (gone .going) (ap (span (isDetail cwr22)) left ∙ rw (no-detail here its n))
 
       after-all : after (isDetail cwr22) (restAt f start) ≡ restAt f (w .at)
-      after-all = gone .rest ∙ ap (after (isDetail cwr22)) left ∙ rw (no-detail n) (sym left)
+      after-all = gone .rest ∙ ap (after (isDetail cwr22)) left ∙ rw (no-detail here its n) (sym left)
 
       pub past : (l : Links) (b : Bool) → Linked l ds → PastDetails f m (restAt f start) (record { walk = w; links = l; class = kind .class; rejects = b })
       past l b k = record {

@@ -78,7 +78,7 @@ pub struct Details {
 }
 
 // Where the row of the record that begins at this byte may stand.
-fn hint_at(file: &[u8], at: usize) -> usize
+pub fn hint_at(file: &[u8], at: usize) -> usize
     requires { ⌜ at + 3 ≤ length (now file) ⌝ }
     ensures { λ r. ⌜ r < 38 ⌝ }
 {
@@ -86,7 +86,7 @@ fn hint_at(file: &[u8], at: usize) -> usize
 }
 
 // The row of that record: the one hinted at, where it is of the record's type.
-fn row_at(hinted: Row, file: &[u8], at: usize) -> Row
+pub fn row_at(hinted: Row, file: &[u8], at: usize) -> Row
     requires { ⌜ (at + 3 ≤ length (now file)) × ((type : Bytes) → sameBytes (typeOf hinted) type ≡ true → hinted ≡ rowFor type) ⌝ }
     ensures { λ r. ⌜ r ≡ rowFor (take 3 (drop at (now (file .entry)))) ⌝ }
 {
