@@ -9,7 +9,8 @@ use Rattle.format.specs.Structure.{firstOf}
 use Rattle.rules.specs.Territories.{territoriesIn, codesOf}
 use Rattle.rules.specs.Collection.{claimed}
 use Rattle.territories.specs.Positions.{placeOf}
-use Rattle.territories.proofs.Laws.{place-within, length-codes, right-table}
+use Rattle.rules.proofs.Names.{right-table}
+use Rattle.territories.proofs.Laws.{place-within, length-codes}
 use Rattle.transactions.specs.Walk.{restAt}
 use Rattle.transactions.proofs.Standing.{ends, lent}
 use Rattle.parties.proofs.Steps.{claim-record, ahead-claim}
