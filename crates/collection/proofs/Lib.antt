@@ -8,3 +8,7 @@ pub mod WholeFile
 pub mod Known
 pub mod Sorts
 pub mod Gone
+pub mod Owed
+pub mod Found
+pub mod Heads
+pub mod Advancing

@@ -75,6 +75,7 @@ pub record Doubts (f table : Bytes) (t m : ℕ) (v' g' : Bytes) (o : Over) (w : 
   pub here : Here f first head (restAt f first)
   pub left : after (isDetail cwr22) (restAt f first) ≡ restAt f (w .at)
   pub ends : w .index ≡ w .header + suc (length (span (isDetail cwr22) (restAt f first)))
+  pub numbered : w .number ≤ w .header
   pub verdicts : raisedFrom (territoriesIn table) t (w .index) (restAt f (w .at))
       (raisedIf (is47 (territoriesIn table) t (span (isDetail cwr22) (restAt f first))) (w .header)
       (suc (length (span (isDetail cwr22) (restAt f first)))) v)
@@ -85,6 +86,27 @@ pub record Doubts (f table : Bytes) (t m : ℕ) (v' g' : Bytes) (o : Over) (w : 
   pub over : orFound w (orLater (w .number) (firstOver (territoriesIn table) t (span (isDetail cwr22) (restAt f first)))
       (overAmong (territoriesIn table) t (suc (w .number)) (transactionsIn cwr22 (restAt f (w .at)))))
       ≡ o
+
+-- past one transaction, which is in doubt or not
+pub record Judged (f table : Bytes) (t m : ℕ) (v' g' : Bytes) (o : Over) (s : Sought) (v g : Bytes) : Type 0 where
+  pub doubts : s .doubtful ≡ true → Doubts f table t m v' g' o (s .walk) (s .first) v g
+  pub goes : s .doubtful ≡ false → Owes f table t m v' g' o (s .walk) v g
+
+-- past a control record of so many bytes
+abbrev pub pastControl : Walk → ℕ → Walk
+pastControl w size = record {
+  at = w .at + size + 2;
+  index = w .index + 1;
+  number = w .number;
+  found = w .found;
+  transaction = w .transaction;
+  territory = w .territory;
+  header = w .header;
+}
+
+-- twice the records that are left, and one more for a transaction in doubt
+unfoldable pub stepsLeft : Bytes → Sought → ℕ
+stepsLeft f s = cond (s .doubtful) 1 0 + 2 * length (restAt f (s .walk .at))
 
 -- the walk has come to a transaction in doubt, or to the end
 pub record Reached (f table : Bytes) (t m : ℕ) (v' g' : Bytes) (o : Over) (s : Sought) (v g : Bytes) : Type 0 where

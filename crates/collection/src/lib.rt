@@ -26,24 +26,27 @@ ghost use Rattle.format.specs.Tree.{span, isDetail};
 ghost use Rattle.rules.specs.Territories.{territoriesIn, rightTerritories};
 ghost use Rattle.rules.specs.Collection.{isParty};
 ghost use Rattle.rules.specs.WithTerritories.{Over};
+ghost use Rattle.claims.specs.Entries.{entryOf, overIn};
+ghost use Rattle.parties.specs.Ahead.{entriesAt};
 ghost use Rattle.kinds.specs.Rows.{rowFor};
 ghost use Rattle.edits.specs.Kinds.{Stands};
 ghost use Rattle.structure.specs.Cursor.{Here};
 ghost use Rattle.transactions.specs.Walk.{restAt};
-ghost use Rattle.claims.specs.Entries.{entryOf};
 ghost use Rattle.parties.specs.Records.{ClaimRecord};
 ghost use Rattle.collection.specs.Marked.{with47, with48, raisedIf, marked48};
-ghost use Rattle.collection.specs.Walk.{Known, PastDetails, Lent, Standing, Owes, Doubts, Reached};
+ghost use Rattle.collection.specs.Walk.{Known, PastDetails, Lent, Standing, Owes, Doubts, Judged, Reached, pastControl, stepsLeft};
 
 // ---- the buffers
 
-// Finding 47 of a record: the highest bit of its sixth byte.
-fn set_47(index: usize, findings: &mut [u8])
+// Finding 47 of a header, where it has it: the highest bit of its sixth byte.
+fn set_47(over: bool, index: usize, findings: &mut [u8])
     requires { ⌜ 8 * (index + 1) ≤ length (now findings) ⌝ }
-    ensures { λ _. ⌜ now (findings .exit) ≡ with47 index (now (findings .entry)) ⌝ }
+    ensures { λ _. ⌜ now (findings .exit) ≡ cond over (with47 index (now (findings .entry))) (now (findings .entry)) ⌝ }
 {
-    let at = 8 * index + 5;
-    findings[at] = findings[at] % 128 + 128;
+    if over {
+        let at = 8 * index + 5;
+        findings[at] = findings[at] % 128 + 128;
+    }
 }
 
 // With the lowest bit set.
@@ -270,4 +273,146 @@ pub struct Sought {
     pub walk: Walk,
     pub doubtful: bool,
     pub first: usize,
+}
+
+// One transaction, before whose header the walk stands: 48 on each of its claims. It is in doubt where the largest shares do not fit.
+fn judge_transaction(
+    file: &[u8],
+    table: &[u8],
+    hints: &territories::Hints,
+    t: u64,
+    w: Walk,
+    verdicts: &mut [u8],
+    findings: &mut [u8],
+) -> Sought
+    requires { ⌜ ((m : ℕ) × Lent (now file) (now table) t m (now verdicts) (now findings) × Standing (now file) m w
+        × (cls cwr22 (firstOf (restAt (now file) (w .at))) ≡ head)) ⌝ }
+    ensures { λ s. ⌜ ((m : ℕ) (v g : Bytes) (o : Over)
+        → Owes (now (file .entry)) (now (table .entry)) t m v g o w (now (verdicts .entry)) (now (findings .entry))
+        → Judged (now (file .entry)) (now (table .entry)) t m v g o s (now (verdicts .exit)) (now (findings .exit))) ⌝ }
+    ensures { λ s. ⌜ length (restAt (now (file .entry)) (s .walk .at)) < length (restAt (now (file .entry)) (w .at)) ⌝ }
+{
+    let first = w.at + kinds::HEADER_LENGTH as usize + 2;
+    let d = judge_details(file, first, w.index + 1, table, hints, findings);
+    let tally = d.tally;
+    raise(tally.wrong, w.index, d.index, verdicts);
+    let largest = tally.largest;
+    let fits = largest.fits(t);
+    Sought {
+        walk: Walk {
+            at: d.at,
+            index: d.index,
+            number: either::index(fits, w.number + 1, w.number),
+            found: w.found,
+            transaction: w.transaction,
+            territory: w.territory,
+            header: w.index,
+        },
+        doubtful: !fits,
+        first: first,
+    }
+}
+
+impl Walk {
+    // Past a record that is no part of a transaction and has so many bytes.
+    fn past(self, size: usize) -> Walk
+        requires { ⌜ (self .at + size + 2 ≤ mostBytes) × (self .index < mostRecords) ⌝ }
+        ensures { λ w. ⌜ w ≡ pastControl self size ⌝ }
+    {
+        Walk {
+            at: self.at + size + 2,
+            index: self.index + 1,
+            number: self.number,
+            found: self.found,
+            transaction: self.transaction,
+            territory: self.territory,
+            header: self.header,
+        }
+    }
+}
+
+// From where the walk stands to the next transaction in doubt, or to the end.
+fn advance(
+    file: &[u8],
+    table: &[u8],
+    hints: &territories::Hints,
+    t: u64,
+    from: Walk,
+    verdicts: &mut [u8],
+    findings: &mut [u8],
+) -> Sought
+    requires { ⌜ ((m : ℕ) × Lent (now file) (now table) t m (now verdicts) (now findings) × Standing (now file) m from) ⌝ }
+    ensures { λ s. ⌜ ((m : ℕ) (v g : Bytes) (o : Over)
+        → Owes (now (file .entry)) (now (table .entry)) t m v g o from (now (verdicts .entry)) (now (findings .entry))
+        → Reached (now (file .entry)) (now (table .entry)) t m v g o s (now (verdicts .exit)) (now (findings .exit))) ⌝ }
+    ensures { λ s. ⌜ stepsLeft (now (file .entry)) s ≤ 2 * length (restAt (now (file .entry)) (from .at)) ⌝ }
+{
+    let rows = kinds::table();
+    let mut w = from;
+    loop {
+        let at = w.at;
+        let k = transactions::hint_at(file, at);
+        let row = transactions::row_at(rows[k], file, at);
+        if row.class == TRL {
+            return Sought {
+                walk: w,
+                doubtful: false,
+                first: 0,
+            };
+        }
+        if row.class == HEAD {
+            let s = judge_transaction(file, table, hints, t, w, verdicts, findings);
+            if s.doubtful {
+                return s;
+            }
+            w = s.walk;
+        } else {
+            w = w.past(row.size());
+        }
+    }
+}
+
+// The same, with the hints for codes made anew: an index of the table would not pay, since few transactions are in doubt.
+pub fn seek(
+    file: &[u8],
+    table: &[u8],
+    t: u64,
+    from: Walk,
+    verdicts: &mut [u8],
+    findings: &mut [u8],
+) -> Sought
+    requires { ⌜ ((m : ℕ) × Lent (now file) (now table) t m (now verdicts) (now findings) × Standing (now file) m from) ⌝ }
+    ensures { λ s. ⌜ ((m : ℕ) (v g : Bytes) (o : Over)
+        → Owes (now (file .entry)) (now (table .entry)) t m v g o from (now (verdicts .entry)) (now (findings .entry))
+        → Reached (now (file .entry)) (now (table .entry)) t m v g o s (now (verdicts .exit)) (now (findings .exit))) ⌝ }
+    ensures { λ s. ⌜ stepsLeft (now (file .entry)) s ≤ 2 * length (restAt (now (file .entry)) (from .at)) ⌝ }
+{
+    let mut hints = [0u16; territories::SLOTS];
+    territories::hint(table, &mut hints);
+    advance(file, table, &hints, t, from, verdicts, findings)
+}
+
+// The transaction in doubt, once its claims are counted: the first territory that is over, or as many as there are.
+pub fn settle(table: &[u8], w: Walk, over: usize, verdicts: &mut [u8], findings: &mut [u8]) -> Walk
+    requires { ⌜ ((m : ℕ) × (f : Bytes) × (t : ℕ) × (first : ℕ) × (v' : Bytes) × (g' : Bytes) × (o : Over)
+        × Lent f (now table) t m (now verdicts) (now findings) × Doubts f (now table) t m v' g' o w first (now verdicts) (now findings)) ⌝ }
+    ensures { λ r. ⌜ ((f : Bytes) (t m first : ℕ) (v' g' : Bytes) (o : Over)
+        → Doubts f (now (table .entry)) t m v' g' o w first (now (verdicts .entry)) (now (findings .entry))
+        → over ≡ overIn (now (table .entry)) t (entriesAt f (now (table .entry)) first 0)
+        → Owes f (now (table .entry)) t m v' g' o r (now (verdicts .exit)) (now (findings .exit))) ⌝ }
+    ensures { λ r. ⌜ r .at ≡ w .at ⌝ }
+{
+    let is = over < territories::count(table);
+    set_47(is, w.header, findings);
+    raise(is, w.header, w.index, verdicts);
+    let new = is & !w.found;
+    Walk {
+        at: w.at,
+        index: w.index,
+        number: w.number + 1,
+        found: is | w.found,
+        transaction: either::index(new, w.number, w.transaction),
+        territory: either::index(new, over, w.territory),
+        header: w.header,
+    }
 }

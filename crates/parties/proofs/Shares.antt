@@ -50,12 +50,6 @@ most-none =
       roomy = λ right. rw (of-rights (λ _. 0) right) (omega arith);
     }
 
--- the shares where something holds are no larger
-pub only-few : (b : Bool) (shares r : Rights) → r ≡ rights (λ right. cond b (ofRight shares right) 0)
-    → {k : ℕ} → AtMost k shares → AtMost k r
-only-few true shares r e h = rw e h
-only-few false shares r e h = rw e (omega arith, omega arith, omega arith)
-
 module _ {es : List Claim} {l : Largest} (most : Most es l) where
   -- before the entry, the rest comes to what it does after it
   rest-with : (e : Claim) (right : Right) (more : List Claim)

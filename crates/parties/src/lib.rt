@@ -12,7 +12,7 @@ use values::Share;
 ghost use mathlib.Core.Path.{_≡_};
 ghost use mathlib.Core.Bool.{true, cond, _||_};
 ghost use mathlib.Core.List.{List, [], _∷_, _++_};
-ghost use Prim.Native.Nat.{_+_, _^_, _<_, _≤_};
+ghost use Prim.Native.Nat.{ℕ, _+_, _^_, _<_, _≤_};
 ghost use lib.Dec.{eqb};
 ghost use lib.ListN.{length, take, drop};
 ghost use Rattle.rules.specs.Values.{fullShare, largestTolerance};
@@ -23,7 +23,7 @@ ghost use Rattle.claims.specs.declared.Claim.{Claim};
 ghost use Rattle.claims.specs.Entries.{noClaim, entryOf, shareOf};
 ghost use Rattle.claims.specs.Work.{ofRight};
 ghost use Rattle.territories.specs.Positions.{placeOf};
-ghost use Rattle.totals.specs.Sums.{rights};
+ghost use Rattle.totals.specs.Sums.{rights, AtMost};
 ghost use Rattle.rules.specs.Findings.{larger};
 ghost use Rattle.parties.specs.Records.{ClaimRecord, Reads};
 ghost use Rattle.parties.specs.Ahead.{Within, Ahead, ClaimRow};
@@ -120,6 +120,7 @@ pub struct Largest {
 // These shares where c holds, else none.
 fn only(c: bool, shares: Rights) -> Rights
     ensures { λ r. ⌜ r ≡ rights (λ right. cond c (ofRight shares right) 0) ⌝ }
+    ensures { λ r. ⌜ ((most : ℕ) → AtMost most shares → AtMost most r) ⌝ }
 {
     Rights {
         pr: either::number(c, shares.pr, 0),

@@ -1,10 +1,8 @@
 -- `parties::Largest::with` meets its contract. Assumes nothing.
 use native.Mathlib.Omega.{arith}
-use mathlib.Core.Bool.{not}
-use lib.Dec.{eqb}
 use borrow.Author.Tests.{eq-eqb, ne-eqb}
 use borrow.Author.Needs.{needs}
-use Rattle.parties.proofs.Shares.{most-ignored, most-on, at-most-before, at-most-current, only-few}
+use Rattle.parties.proofs.Shares.{most-ignored, most-on, at-most-before, at-most-current}
 use Rattle.parties.proofs.Largest.with.Statement.{statement}
 use Rattle.parties.proofs.Largest.with.Tie as tie
 
@@ -13,17 +11,15 @@ returns c es most = most-ignored most _ (eq-eqb _ 0 (c .if1 .taken))
 
 with-requires : tie.Need-with-requires
 with-requires c κs =
-    let start = c .before .before .before .before .before .before .before in
-    let (es, most, few) = start .pre in
-    let begins = not (eqb (start .args .claim .party) (start .args .self .party)) in
-    (at-most-before most (omega (arith, few)), only-few begins _ _ (c .only .ensures) (at-most-current most (omega arith)))
+    let (es, most, few) = c .before .before .before .before .before .before .before .pre in
+    (at-most-before most (omega (arith, few)), c .only .ensures .1 _ (at-most-current most (omega arith)))
 
 returns-2 : tie.Need-returns-2
 returns-2 c es most =
     let branch = c .before .before .before .before .before .before .before .before in
     let shares = branch .before .struct-known .given .1 .1 .1 in
     most-on most _ (ne-eqb _ 0 (branch .if1 .left)) (omega (arith, shares .0), omega (arith, shares .1 .0), omega (arith, shares .1 .1 .0))
-    _ _ _ _ (c .before .before .before .only .ensures) (c .before .only2 .ensures) (c .before .before .with .ensures) (c .larger-of .ensures)
+    _ _ _ _ (c .before .before .before .only .ensures .0) (c .before .only2 .ensures .0) (c .before .before .with .ensures) (c .larger-of .ensures)
 
 pub with-spec : {M : Type 1} → statement M
 with-spec =
