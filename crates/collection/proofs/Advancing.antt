@@ -29,7 +29,7 @@ use Rattle.collection.specs.declared.Walk.{Walk}
 use Rattle.collection.specs.declared.Sought.{Sought}
 use Rattle.collection.specs.Marked.{markedFrom, raisedFrom}
 use Rattle.collection.specs.Walk.{Lent, Standing, orFound, Owes, Judged, Reached, pastControl, stepsLeft}
-use Rattle.collection.proofs.Owed.{marked-control, raised-control, marked-end, raised-end}
+use Rattle.collection.proofs.Owed.{marked-control, raised-control, crowded-control, marked-end, raised-end}
 
 -- what a walk owes from where it stands, it owes itself
 owes-self : {f table : Bytes} {t m : ℕ} {w : Walk} {v g : Bytes} → Standing f m w
@@ -190,6 +190,9 @@ module _ {f table : Bytes} {t : ℕ} {v₀ g₀ : Bytes} {from : Walk} {v g : By
         more = no-trailer;
         position = rw after-left (record { here = after-it .here; left = omega (arith, s .position .left, ap length left) });
         numbers = omega (arith, s .numbers);
+        uncrowded =
+            λ c z. let one : w .index + 1 ≡ suc (w .index) = omega arith in
+            rw (after-left, one) (crowded-control c (w .index) r rs not-head (rw left at (s .uncrowded c z)));
       }
 
       pub past-control : Underway f table t v₀ g₀ from v g (pastControl w size)

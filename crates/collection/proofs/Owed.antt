@@ -17,13 +17,14 @@ use Rattle.format.specs.Structure.{firstOf}
 use Rattle.format.specs.Tree.{span, after, isHead, isDetail, transactionsIn}
 use Rattle.format.specs.Lent.{splice}
 use Rattle.format.proofs.Tests.{by-cases}
-use borrow.Author.Tests.{le-leb}
-use Rattle.rules.specs.Records.{any}
+use lib.Dec.{ltb}
+use borrow.Author.Tests.{le-leb, ltb-false}
+use Rattle.rules.specs.Records.{only, any}
 use Rattle.rules.specs.Findings.{TR, verdict, larger}
 use Rattle.rules.specs.Verdicts.{raised}
 use Rattle.rules.specs.Territories.{Territory, territoriesIn}
-use Rattle.rules.specs.Collection.{is47, is48, firstOver}
-use Rattle.rules.specs.WithTerritories.{Over, nowhere, over, orLater, overAmong}
+use Rattle.rules.specs.Collection.{isClaim, is47, is48, firstOver}
+use Rattle.rules.specs.WithTerritories.{Over, nowhere, over, orLater, overAmong, crowdedFrom}
 use Rattle.structure.specs.Cursor.{Here}
 use Rattle.transactions.specs.Walk.{restAt, tailOf, Position}
 use Rattle.transactions.proofs.Gone.{length-parted}
@@ -98,6 +99,39 @@ transactions-skip [] = refl
 transactions-skip (r ∷ rs) =
     by-cases (isDetail cwr22 r) (λ d. rw (d, detail-no-head r d) (transactions-skip rs)) (λ d. rw d)
 
+-- ---- transactions with too many claims
+
+crowded-skip : (c i : ℕ) (rs : List Bytes)
+    → crowdedFrom c i rs ≡ crowdedFrom c (i + length (span (isDetail cwr22) rs)) (after (isDetail cwr22) rs)
+crowded-skip c i [] = refl
+crowded-skip c i (r ∷ rs) =
+    by-cases (isDetail cwr22 r)
+    (λ d.
+    let on : suc i + length (span (isDetail cwr22) rs) ≡ i + suc (length (span (isDetail cwr22) rs)) = omega arith in
+    rw (d, detail-no-head r d, ← on) (crowded-skip c (suc i) rs))
+    (λ d. rw (d, add-zero i))
+
+pub crowded-control : (c i : ℕ) (r : Bytes) (rs : List Bytes) → isHead cwr22 r ≡ false → crowdedFrom c i (r ∷ rs) ≡ none
+    → crowdedFrom c (suc i) rs ≡ none
+crowded-control c i r rs h e = rw h at e
+
+some-none : (i : ℕ) → _≡_ {A = Option ℕ} (some i) none → ⊥
+some-none i e = true≢false (ap is-some e)
+  where
+    is-some : Option ℕ → Bool
+    is-some none = false
+    is-some (some j) = true
+
+crowded-header : (c i : ℕ) (r : Bytes) (rs : List Bytes) → isHead cwr22 r ≡ true → crowdedFrom c i (r ∷ rs) ≡ none
+    → (length (only isClaim (span (isDetail cwr22) rs)) ≤ c)
+    × (crowdedFrom c (i + suc (length (span (isDetail cwr22) rs))) (after (isDetail cwr22) rs) ≡ none)
+crowded-header c i r rs h e =
+    let claims = length (only isClaim (span (isDetail cwr22) rs)) in
+    let on : suc i + length (span (isDetail cwr22) rs) ≡ i + suc (length (span (isDetail cwr22) rs)) = omega arith in
+    by-cases (ltb c claims)
+    (λ l. absurd (some-none i (rw (h, l) at e)))
+    (λ l. (ltb-false c claims l, rw (← on) (sym (crowded-skip c (suc i) rs) ∙ (rw (h, l) at e))))
+
 -- verdicts that are not raised
 larger-zero : (n : ℕ) → larger 0 n ≡ n
 larger-zero n = rw (le-leb 0 n (omega arith))
@@ -140,6 +174,10 @@ module _ {f table : Bytes} {t m : ℕ} {v' g' : Bytes} {o : Over} {w : Walk} {v 
         let all = owes .standing .position .left in
         omega (arith, parted, all, ap length left, position .left)
 
+    uncrowded : (c : ℕ) → crowdedFrom c 0 (restAt f 0) ≡ none → (length (only isClaim ds) ≤ c)
+        × (crowdedFrom c (w .index + suc (length ds)) (after (isDetail cwr22) (restAt f first)) ≡ none)
+    uncrowded c z = crowded-header c (w .index) r (restAt f first) its (rw left at (owes .standing .uncrowded c z))
+
     pub past-transaction : Doubts f table t m v' g' o e first
         (raisedIf (any (is48 T) ds) (w .index) (suc (length ds)) v) (marked48 T (suc (w .index)) ds g)
     past-transaction = record {
@@ -148,11 +186,13 @@ module _ {f table : Bytes} {t m : ℕ} {v' g' : Bytes} {o : Over} {w : Walk} {v 
         more = refl;
         position = rw after-it position;
         numbers = omega (arith, number, ends, owes .standing .numbers);
+        uncrowded = λ c z. rw (after-it, ends) (uncrowded c z .1);
       };
       here = here;
       left = sym after-it;
       ends = rw header ends;
       numbered = rw (number, header) (owes .standing .numbers);
+      fits = λ c z. uncrowded c z .0;
       verdicts = rw (after-it, ends, header) (sym (raised-header T t (w .index) r (restAt f first) v its) ∙ (rw left at (owes .verdicts)));
       findings = rw (after-it, ends, header) (sym (marked-header T t (w .index) r (restAt f first) g its) ∙ (rw left at (owes .findings)));
       over = rw (number, after-it, ← transactions-skip (restAt f first)) (same _ ∙ (rw (left, its) at (owes .over)));
@@ -176,6 +216,7 @@ module _ {f table : Bytes} {t m : ℕ} {v' g' : Bytes} {o : Over} {w : Walk} {fi
           more = doubts .standing .more;
           position = rw (at, index) (doubts .standing .position);
           numbers = omega (arith, index, number, doubts .numbered, doubts .ends);
+          uncrowded = rw (at, index) (doubts .standing .uncrowded);
         };
         verdicts = rw (at, index, is, long) (doubts .verdicts);
         findings = rw (at, index, is) (doubts .findings);

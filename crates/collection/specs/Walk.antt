@@ -3,6 +3,7 @@
 use Prim.Native.Nat.{ℕ, suc, _+_, _*_, _≤_}
 use mathlib.Core.Path.{_≡_}
 use mathlib.Core.Bool.{Bool, true, false, cond}
+use mathlib.Core.Option.{none}
 use mathlib.Core.List.{List, [], _∷_}
 use lib.ListN.{length}
 use Rattle.format.specs.Bytes.{Bytes}
@@ -14,8 +15,8 @@ use Rattle.format.specs.Tree.{span, after, isDetail, transactionsIn}
 use Rattle.rules.specs.Values.{largestTolerance}
 use Rattle.rules.specs.Records.{only, any}
 use Rattle.rules.specs.Territories.{Territory, territoriesIn, rightTerritories}
-use Rattle.rules.specs.Collection.{isParty, is47, is48, firstOver}
-use Rattle.rules.specs.WithTerritories.{Over, nowhere, over, orLater, overAmong}
+use Rattle.rules.specs.Collection.{isParty, isClaim, is47, is48, firstOver}
+use Rattle.rules.specs.WithTerritories.{Over, nowhere, over, orLater, overAmong, crowdedFrom}
 use Rattle.structure.specs.Cursor.{Here}
 use Rattle.transactions.specs.Walk.{restAt, Position}
 use Rattle.claims.specs.Entries.{entriesFrom}
@@ -51,12 +52,13 @@ pub record Lent (f table : Bytes) (t m : ℕ) (v g : Bytes) : Type 0 where
   pub inV : m ≤ length v
   pub inG : 8 * m ≤ length g
 
--- before a record of a file of m records
+-- before a record of a file of m records; where no transaction of the file has more than c claims, none that is left has
 pub record Standing (f : Bytes) (m : ℕ) (w : Walk) : Type 0 where
   pub class : Class
   pub more : is trl class ≡ false
   pub position : Position f m (w .at) (w .index) class (restAt f (w .at))
   pub numbers : w .number ≤ w .index
+  pub uncrowded : (c : ℕ) → crowdedFrom c 0 (restAt f 0) ≡ none → crowdedFrom c (w .index) (restAt f (w .at)) ≡ none
 
 -- the first territory that was found to be over; where none was, what comes later
 abbrev pub orFound : Walk → Over → Over
@@ -76,6 +78,7 @@ pub record Doubts (f table : Bytes) (t m : ℕ) (v' g' : Bytes) (o : Over) (w : 
   pub left : after (isDetail cwr22) (restAt f first) ≡ restAt f (w .at)
   pub ends : w .index ≡ w .header + suc (length (span (isDetail cwr22) (restAt f first)))
   pub numbered : w .number ≤ w .header
+  pub fits : (c : ℕ) → crowdedFrom c 0 (restAt f 0) ≡ none → length (only isClaim (span (isDetail cwr22) (restAt f first))) ≤ c
   pub verdicts : raisedFrom (territoriesIn table) t (w .index) (restAt f (w .at))
       (raisedIf (is47 (territoriesIn table) t (span (isDetail cwr22) (restAt f first))) (w .header)
       (suc (length (span (isDetail cwr22) (restAt f first)))) v)
