@@ -42,31 +42,9 @@ fn in_room(answer: Answer, verdicts: usize, findings: usize) -> Answer
     answer
 }
 
-// ---- the records of a file that passed
+// ---- a search through a file that passed, with its tables
 
 // The tables are indexed once, in slots on the stack.
-fn judge(
-    file: &[u8],
-    languages: &[u8],
-    societies: &[u8],
-    categories: &[u8],
-    tolerance: u64,
-    verdicts: &mut [u8],
-    findings: &mut [u8],
-)
-    requires { ⌜ (length (now file) ≤ mostBytes) × Here (now file) 0 unknown (restAt (now file) 0)
-        × Room (length (restAt (now file) 0)) (length (now verdicts)) (length (now findings)) ⌝ }
-    requires { ⌜ (tolerance ≤ largestTolerance) × (rightTable languageSize (now languages) ≡ true)
-        × (rightTable societySize (now societies) ≡ true) × (rightTable categorySize (now categories) ≡ true) ⌝ }
-    ensures { λ _. ⌜ WrittenFile (tablesOf (now (languages .entry)) (now (societies .entry)) (now (categories .entry)))
-        tolerance (now (file .entry)) (now (verdicts .entry)) (now (findings .entry)) (now (verdicts .exit)) (now (findings .exit)) ⌝ }
-{
-    let mut slots = [0u32; tables::SLOTS];
-    tables::index(languages, societies, categories, &mut slots);
-    files::judge_file(file, tolerance, &slots, verdicts, findings);
-}
-
-// The same for a search, which writes nothing.
 fn seek(
     file: &[u8],
     languages: &[u8],
@@ -106,7 +84,7 @@ pub fn check(
     if !r.passes() {
         return r;
     }
-    judge(
+    files::judge(
         file,
         languages,
         societies,

@@ -4,6 +4,7 @@ use findings::GR;
 use kinds::HEAD;
 use transactions::Passed;
 ghost use mathlib.Core.Path.{_≡_};
+ghost use mathlib.Core.Bool.{true};
 ghost use mathlib.Core.List.{[], _∷_};
 ghost use Prim.Native.Nat.{_+_, _*_, _≤_, _<_};
 ghost use lib.Dec.{eqb};
@@ -13,7 +14,7 @@ ghost use Rattle.format.specs.Cwr22.{cwr22};
 ghost use Rattle.format.specs.Checks.{cls};
 ghost use Rattle.format.specs.Structure.{mostBytes, firstOf};
 ghost use Rattle.format.specs.Tree.{groupsIn};
-ghost use Rattle.rules.specs.Tables.{Tables};
+ghost use Rattle.rules.specs.Tables.{Tables, languageSize, societySize, categorySize, rightTable, tablesOf};
 ghost use Rattle.rules.specs.Values.{largestTolerance};
 ghost use Rattle.tables.specs.Index.{Indexed};
 ghost use Rattle.structure.specs.Cursor.{Here};
@@ -189,4 +190,26 @@ pub fn judge_file(
         findings,
     );
     settle_control(n.index, verdicts, findings);
+}
+
+// The same with the tables as they are lent: they are indexed once, in slots on the stack.
+pub fn judge(
+    file: &[u8],
+    languages: &[u8],
+    societies: &[u8],
+    categories: &[u8],
+    tolerance: u64,
+    verdicts: &mut [u8],
+    findings: &mut [u8],
+)
+    requires { ⌜ (length (now file) ≤ mostBytes) × Here (now file) 0 unknown (restAt (now file) 0)
+        × Room (length (restAt (now file) 0)) (length (now verdicts)) (length (now findings)) ⌝ }
+    requires { ⌜ (tolerance ≤ largestTolerance) × (rightTable languageSize (now languages) ≡ true)
+        × (rightTable societySize (now societies) ≡ true) × (rightTable categorySize (now categories) ≡ true) ⌝ }
+    ensures { λ _. ⌜ WrittenFile (tablesOf (now (languages .entry)) (now (societies .entry)) (now (categories .entry)))
+        tolerance (now (file .entry)) (now (verdicts .entry)) (now (findings .entry)) (now (verdicts .exit)) (now (findings .exit)) ⌝ }
+{
+    let mut slots = [0u32; tables::SLOTS];
+    tables::index(languages, societies, categories, &mut slots);
+    judge_file(file, tolerance, &slots, verdicts, findings);
 }

@@ -1,7 +1,7 @@
--- `cwr::judge` meets its contract. Assumes nothing.
+-- `files::judge` meets its contract. Assumes nothing.
 use borrow.Author.Needs.{needs}
-use Rattle.cwr.proofs.judge.Statement.{statement}
-use Rattle.cwr.proofs.judge.Tie as tie
+use Rattle.files.proofs.judge.Statement.{statement}
+use Rattle.files.proofs.judge.Tie as tie
 
 returns : tie.Need-returns
 returns c =
