@@ -8,7 +8,7 @@ use Rattle.format.specs.Structure.{Answer as FormatAnswer, refused, passed}
 use Rattle.format.specs.Claims.{Near}
 use Rattle.answers.specs.declared.Answer.{Answer}
 use Rattle.answers.specs.declared.Answer.the-variants.{Tolerance, Table, Long, Many, Line, Shape}
-use Rattle.answers.specs.declared.Answer.the-variants.{Place, Number, Total, Version, Short, Full, Passed}
+use Rattle.answers.specs.declared.Answer.the-variants.{Place, Number, Total, Version, Short, Full, Territories, Crowded, Passed}
 use Rattle.answers.specs.Numbers.{answerOf, exact}
 use Rattle.answers.specs.Claims.{Alike, Named, Says, NothingLost}
 
@@ -18,9 +18,10 @@ use Rattle.answers.specs.Claims.{Alike, Named, Says, NothingLost}
 caseOf : FormatAnswer → Answer
 caseOf (refused n i) =
     getD
-    (Full ∷ Tolerance ∷ Table i ∷ Long ∷ Line i ∷ Many ∷ Shape i ∷ Place i ∷ Number i ∷ Total i ∷ Version ∷ Short ∷ [])
+    (Crowded i ∷ Tolerance ∷ Table i ∷ Long ∷ Line i ∷ Many ∷ Shape i ∷ Place i ∷ Number i ∷ Total i ∷ Version ∷ Short ∷ Full
+    ∷ Territories ∷ [])
     n
-    Full
+    (Crowded i)
 caseOf (passed g m r) = Passed g m r
 
 case-found : (a : Answer) → caseOf (answerOf a) ≡ a
@@ -37,6 +38,8 @@ case-found (Total i) = refl
 case-found Version = refl
 case-found Short = refl
 case-found Full = refl
+case-found Territories = refl
+case-found (Crowded i) = refl
 case-found (Passed g m r) = refl
 
 pub answer-alone : (a b : Answer) → answerOf a ≡ answerOf b → a ≡ b
@@ -57,6 +60,8 @@ named (Total i) = omega arith
 named Version = omega arith
 named Short = omega arith
 named Full = omega arith
+named Territories = omega arith
+named (Crowded i) = omega arith
 named (Passed g m r) = tt
 
 pub exact-says : (a : FormatAnswer) → Near a → Says (exact a) a

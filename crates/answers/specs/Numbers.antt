@@ -5,7 +5,7 @@ use Rattle.format.specs.Structure.{Answer as FormatAnswer, refused, passed, mos
 use Rattle.answers.specs.declared.Told.{Told}
 use Rattle.answers.specs.declared.Answer.{Answer}
 use Rattle.answers.specs.declared.Answer.the-variants.{Tolerance, Table, Long, Many, Line, Shape}
-use Rattle.answers.specs.declared.Answer.the-variants.{Place, Number, Total, Version, Short, Full, Passed}
+use Rattle.answers.specs.declared.Answer.the-variants.{Place, Number, Total, Version, Short, Full, Territories, Crowded, Passed}
 
 abbrev pub answerOf : Answer → FormatAnswer
 answerOf Tolerance = refused 1 0
@@ -20,6 +20,8 @@ answerOf (Total i) = refused 9 i
 answerOf Version = refused 10 0
 answerOf Short = refused 11 0
 answerOf Full = refused 12 0
+answerOf Territories = refused 13 0
+answerOf (Crowded i) = refused 14 i
 answerOf (Passed g m r) = passed g m r
 
 -- an answer in numbers

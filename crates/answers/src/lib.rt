@@ -24,6 +24,9 @@ pub enum Answer {
     Version,
     Short,
     Full,
+    // 13, 14: the territory table; a transaction's header, whose claims are more than the list has entries.
+    Territories,
+    Crowded(usize),
     Passed(u64, u64, u64),
 }
 
@@ -43,9 +46,9 @@ pub struct Told {
 }
 
 fn refusal(number: u64, place: usize) -> Told
-    requires { ⌜ number ≤ 12 ⌝ }
+    requires { ⌜ number ≤ 14 ⌝ }
     ensures { λ r. ⌜ r ≡ toldOf (refused number place) ⌝ }
-    ensures { λ r. ⌜ r .refusal ≤ 12 ⌝ }
+    ensures { λ r. ⌜ r .refusal ≤ 14 ⌝ }
 {
     Told {
         passes: false,
@@ -59,7 +62,7 @@ fn refusal(number: u64, place: usize) -> Told
 
 // A refusal in one number. An answer may hold any place, so its last 32 bits are taken; within the size limits they are the whole place.
 fn pack(number: u64, place: u64) -> u64
-    requires { ⌜ number ≤ 12 ⌝ }
+    requires { ⌜ number ≤ 14 ⌝ }
     ensures { λ r. ⌜ r ≡ packedOf (refused number place) ⌝ }
 {
     number * 4294967296 + place % 4294967296
@@ -69,7 +72,7 @@ impl Answer {
     // In numbers. Nowhere else in code is a refusal given its number.
     pub fn told(self) -> Told
         ensures { λ r. ⌜ r ≡ toldOf (answerOf self) ⌝ }
-        ensures { λ r. ⌜ r .refusal ≤ 12 ⌝ }
+        ensures { λ r. ⌜ r .refusal ≤ 14 ⌝ }
     {
         match self {
             Answer::Tolerance => refusal(1, 0),
@@ -84,6 +87,8 @@ impl Answer {
             Answer::Version => refusal(10, 0),
             Answer::Short => refusal(11, 0),
             Answer::Full => refusal(12, 0),
+            Answer::Territories => refusal(13, 0),
+            Answer::Crowded(i) => refusal(14, i),
             Answer::Passed(groups, transactions, records) => Told {
                 passes: true,
                 refusal: 0,

@@ -1,16 +1,13 @@
 -- What each ending of a check comes to, and that what passes has room. Assumes nothing.
-use Prim.Native.Nat.{ℕ, _+_, _*_, _/_}
+use Prim.Native.Nat.{ℕ, _+_}
 use native.Mathlib.Omega.{arith}
 use mathlib.Core.Path.{_≡_, refl, sym}
 use mathlib.Core.Bool.{true, false, false≢true}
 use mathlib.Core.List.{_++_}
-use lib.Dec.{leb}
 use lib.ListN.{length, drop}
-use borrow.Author.Tests.{leb-true, leb-false, le-leb, lt-leb}
 use Rattle.format.specs.Bytes.{Bytes}
 use Rattle.format.specs.Structure.{Answer, refused, passed}
 use Rattle.format.specs.Lent.{leftIn, splice}
-use Rattle.format.proofs.Tests.{by-cases}
 use Rattle.rules.specs.Tables.{Tables}
 use Rattle.rules.specs.Verdicts.{findingBytes, fileFindings, fileVerdicts}
 use Rattle.rules.specs.Outcome.{Outcome, answer, content, check}
@@ -21,15 +18,6 @@ use Rattle.admission.proofs.Fit.{Fit, passes-fit}
 use Rattle.answers.specs.Numbers.{isPassed}
 use Rattle.buffers.specs.Written.{Written}
 use Rattle.transactions.specs.Walk.{restAt, Room}
-
--- ---- 11
-
--- eight bytes a record
-pub eighths : (r g : ℕ) → leb r (g / 8) ≡ leb (8 * r) g
-eighths r g =
-    by-cases (leb r (g / 8))
-    (λ e. rw (e, le-leb (8 * r) g (omega (arith, leb-true r (g / 8) e))) refl)
-    (λ e. rw (e, lt-leb (8 * r) g (omega (arith, leb-false r (g / 8) e))) refl)
 
 -- ---- endings
 

@@ -28,20 +28,6 @@ ghost use Rattle.cwr.specs.First.{firstOf};
 ghost use Rattle.cwr.specs.Packed.{packedFirst};
 ghost use Rattle.cwr.specs.Promises.{Checked, FirstRejected, SheetTaken, Numbered, Counted, Lowest, RightLength};
 
-// ---- refusals
-
-// 11, after all others.
-fn in_room(answer: Answer, verdicts: usize, findings: usize) -> Answer
-    ensures { λ r. ⌜ answerOf r ≡ inRoom (enough verdicts findings) (answerOf answer) ⌝ }
-{
-    let told = answer.told();
-    let records = told.records;
-    if told.passes & !((records <= verdicts as u64) & (records <= findings as u64 / 8)) {
-        return Answer::Short;
-    }
-    answer
-}
-
 // ---- a search through a file that passed, with its tables
 
 // The tables are indexed once, in slots on the stack.
@@ -80,7 +66,7 @@ pub fn check(
         (now (file .entry)) (now (verdicts .entry)) (now (findings .entry)) r (now (verdicts .exit)) (now (findings .exit)) ⌝ }
 {
     let admitted = admission::admit(file, languages, societies, categories, tolerance);
-    let r = in_room(admitted, verdicts.len(), findings.len());
+    let r = admission::in_room(admitted, verdicts.len(), findings.len());
     if !r.passes() {
         return r;
     }

@@ -19,9 +19,11 @@ use Rattle.format.proofs.Near.{near, unless-within}
 use Rattle.format.proofs.Lent.{room-passed, in-room, room-near, room-by, room-later, left-front, left-beyond, left-length}
 use Rattle.format.proofs.At22.{demand3-22, nearby-22}
 use Rattle.rules.specs.Tables.{Tables, languageSize, societySize, categorySize, rightTable}
+use Rattle.rules.specs.Territories.{rightTerritories}
 use Rattle.rules.specs.Values.{largestTolerance}
 use Rattle.rules.specs.Verdicts.{findingBytes, fileFindings, fileVerdicts}
 use Rattle.rules.specs.Outcome.{lentRight, enough, admission, answer, content, check, shortTolerance}
+use Rattle.rules.specs.WithTerritories.{admissionWith}
 use Rattle.rules.specs.Claims.{InOrder, Checks}
 use Rattle.rules.proofs.Joined.{length-findings}
 use Rattle.rules.proofs.Each.{pairs-counted, verdicts-each, findings-each}
@@ -70,6 +72,15 @@ module _ (tables : Tables) (t : ℕ) (f : Bytes) where
   pub admitted : (k m n : ℕ) → admission tables t f ≡ passed k m n → Orderly tables t × (structure cwr22 f ≡ passed k m n)
   unfolding admission
   admitted = lent-passed tables t (structure cwr22 f)
+
+  -- nor with a territory table, which is then right too
+  pub admitted-with : (table : Bytes) (k m n : ℕ) → admissionWith tables table t f ≡ passed k m n
+      → Orderly tables t × (rightTerritories table ≡ true) × (structure cwr22 f ≡ passed k m n)
+  unfolding admissionWith
+  admitted-with table k m n e =
+      let (o, after) = lent-passed tables t (refusal 13 (unless (rightTerritories table) 0) (structure cwr22 f)) k m n e in
+      let (right, s) = tested 13 0 (rightTerritories table) (structure cwr22 f) k m n after in
+      (o, is-true _ right, s)
 
   -- a refusal on structure is the structure's
   pub admission-structural : (n i : ℕ) → admission tables t f ≡ refused n i → T (isStructural n) → structure cwr22 f ≡ refused n i

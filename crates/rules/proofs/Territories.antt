@@ -19,7 +19,7 @@ use Rattle.format.specs.Tree.{span, isHead, isDetail}
 use Rattle.format.specs.Lent.{inRoom}
 use Rattle.format.proofs.Logic.{left, right}
 use Rattle.format.proofs.Tests.{by-cases, both}
-use Rattle.format.proofs.Answers.{tested, By, refusal-by, refused-by, structure-by}
+use Rattle.format.proofs.Answers.{By, refusal-by, refused-by, structure-by}
 use Rattle.format.proofs.Lent.{room-passed, room-by, left-length}
 use Rattle.rules.specs.Tables.{Tables}
 use Rattle.rules.specs.Records.{only}
@@ -31,7 +31,7 @@ use Rattle.rules.specs.WithTerritories.{claimedFindings, admissionWith, 
 use Rattle.rules.specs.Claims.{Crowded, Collected, Lends}
 use Rattle.rules.proofs.Joined.{length-findings}
 use Rattle.rules.proofs.Each.{findings-all-by, verdicts-all-by, all-counted}
-use Rattle.rules.proofs.Outcomes.{lent-passed, lent-by}
+use Rattle.rules.proofs.Outcomes.{admitted-with, lent-by}
 use Rattle.rules.proofs.Names.{named-exactly}
 use Rattle.rules.proofs.Parties.{one-party, ignored, excluded}
 use Rattle.rules.proofs.Beside.{never, claimed-findings, beside, no-claims}
@@ -138,11 +138,11 @@ module _ (tables : Tables) (table : Bytes) (t : ℕ) (f : Bytes) where
         (then-by (λ k h. inl h) (structure cwr22 f) (structure-by cwr22 (λ k. (1 ≤ k) × (k ≤ 11)) (omega arith) f))))
 
     passes : (k m n : ℕ) → answerWith tables table t f room c ≡ passed k m n → (structure cwr22 f ≡ passed k m n) × T (room n)
-    unfolding answerWith admissionWith
+    unfolding answerWith
     passes k m n e =
         let (let-in, enough) = room-passed room _ k m n (list-passed c (recordsIn (lines f)) _ k m n e) in
-        let after = lent-passed tables t _ k m n let-in .1 in
-        (tested 13 0 (rightTerritories table) (structure cwr22 f) k m n after .1, enough)
+        let (_, _, s) = admitted-with tables t f table k m n let-in in
+        (s, enough)
 
   same-answer : (v g c : ℕ) → rightTerritories table ≡ true → ((i : ℕ) → Crowded c (recordsIn (lines f)) i → ⊥)
       → answerWith tables table t f (enough v g) c ≡ answer tables t f v g

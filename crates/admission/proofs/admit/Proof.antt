@@ -1,45 +1,17 @@
 -- `admission::admit` meets its contract. Assumes nothing.
-use mathlib.Core.Path.{sym, _∙_}
 use borrow.Author.Needs.{needs}
-use borrow.Author.Tests.{not-true, not-false}
-use Rattle.admission.proofs.Refusals.{wrong-tolerance, wrong-languages, wrong-societies, wrong-categories, by-structure}
+use Rattle.rules.specs.Outcome.{admission}
+use Rattle.admission.proofs.Refusals.{refused-so, rest-so}
 use Rattle.admission.proofs.admit.Statement.{statement}
 use Rattle.admission.proofs.admit.Tie as tie
 
 returns : tie.Need-returns
-returns c = wrong-tolerance _ _ _ (sym (c .before .is-tolerance .ensures) ∙ not-true _ (c .if1 .taken))
+unfolding admission
+returns c = refused-so _ _ _ (c .before .before .before .lent-right .ensures) _ _ (c .before .answer .given .1)
 
 returns-2 : tie.Need-returns-2
-returns-2 c =
-    let tolerance = sym (c .before .before .before .is-tolerance .ensures) ∙ not-false _ (c .before .before .if1 .left) in
-    wrong-languages _ _ _ tolerance (sym (c .before .right .ensures) ∙ not-true _ (c .if2 .taken))
-
-returns-3 : tie.Need-returns-3
-returns-3 c =
-    let tolerance = sym (c .before .before .before .before .before .is-tolerance .ensures) ∙ not-false _ (c .before .before .before .before .if1 .left) in
-    let languages = sym (c .before .before .before .right .ensures) ∙ not-false _ (c .before .before .if2 .left) in
-    wrong-societies _ _ _ tolerance languages (sym (c .before .right2 .ensures) ∙ not-true _ (c .if3 .taken))
-
-returns-4 : tie.Need-returns-4
-returns-4 c =
-    let at1 = c .before .before .before .before in
-    let tolerance = sym (at1 .before .before .before .is-tolerance .ensures) ∙ not-false _ (at1 .before .before .if1 .left) in
-    let languages = sym (at1 .before .right .ensures) ∙ not-false _ (at1 .if2 .left) in
-    let societies = sym (c .before .before .before .right2 .ensures) ∙ not-false _ (c .before .before .if3 .left) in
-    wrong-categories _ _ _ tolerance languages societies (sym (c .before .right3 .ensures) ∙ not-true _ (c .if4 .taken))
-
-returns-5 : tie.Need-returns-5
-returns-5 c =
-    let at2 = c .before .before .before in
-    let tolerance = sym (at2 .before .before .before .before .before .is-tolerance .ensures) ∙ not-false _ (at2 .before .before .before .before .if1 .left) in
-    let languages = sym (at2 .before .before .before .right .ensures) ∙ not-false _ (at2 .before .before .if2 .left) in
-    let societies = sym (at2 .before .right2 .ensures) ∙ not-false _ (at2 .if3 .left) in
-    let categories = sym (c .before .before .right3 .ensures) ∙ not-false _ (c .before .if4 .left) in
-    by-structure _ _ _ tolerance languages societies categories _ (c .check .ensures)
+unfolding admission
+returns-2 c = rest-so _ _ _ (c .before .before .before .lent-right .ensures) _ (c .before .enum-told .given .1) _ (c .check .ensures)
 
 pub admit-spec : {M : Type 1} → statement M
-admit-spec =
-    tie.close
-    (tie.spec
-    (λ c κs. search needs) returns (λ c κs. search needs) returns-2 (λ c κs. search needs) returns-3 (λ c κs. search needs)
-    returns-4 (λ c κs. search needs) returns-5)
+admit-spec = tie.close (tie.spec (λ c κs. search needs) (λ c. search needs) (λ c. search needs) (λ c κs. search needs) returns returns-2)

@@ -42,7 +42,13 @@ returns-12 : tie.Need-returns-12
 returns-12 c = (rw (c .before .enum-told6 .given .1) (c .refusal12 .ensures .0), c .refusal12 .ensures .1)
 
 returns-13 : tie.Need-returns-13
-returns-13 c = (rw (c .before .self7 .given .1) refl, omega arith)
+returns-13 c = (rw (c .before .enum-told7 .given .1) (c .refusal13 .ensures .0), c .refusal13 .ensures .1)
+
+returns-14 : tie.Need-returns-14
+returns-14 c = (rw (c .before .before .self7 .given .1) (c .refusal14 .ensures .0), c .refusal14 .ensures .1)
+
+returns-15 : tie.Need-returns-15
+returns-15 c = (rw (c .before .self8 .given .1) refl, omega arith)
 
 pub told-spec : {M : Type 1} → statement M
 told-spec =
@@ -52,5 +58,6 @@ told-spec =
     (λ c κs. search needs) (λ c. search needs) (λ c κs. search needs) (λ c. search needs) (λ c κs. search needs)
     (λ c. search needs) (λ c κs. search needs) (λ c. search needs) (λ c κs. search needs) (λ c. search needs)
     (λ c κs. search needs) (λ c. search needs) (λ c κs. search needs) (λ c. search needs) (λ c κs. search needs)
-    (λ c. search needs) (λ c κs. search needs) (λ c. search needs) (λ c κs. search needs) (λ c. search needs) returns returns-2 returns-3 returns-4 returns-5 returns-6
-    returns-7 returns-8 returns-9 returns-10 returns-11 returns-12 returns-13)
+    (λ c. search needs) (λ c κs. search needs) (λ c. search needs) (λ c κs. search needs) (λ c. search needs)
+    (λ c κs. search needs) (λ c. search needs) (λ c κs. search needs) (λ c. search needs) returns returns-2 returns-3 returns-4
+    returns-5 returns-6 returns-7 returns-8 returns-9 returns-10 returns-11 returns-12 returns-13 returns-14 returns-15)

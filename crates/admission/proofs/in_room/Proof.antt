@@ -1,9 +1,9 @@
--- `cwr::in_room` meets its contract. Assumes nothing.
+-- `admission::in_room` meets its contract. Assumes nothing.
 use borrow.Author.Needs.{needs}
 use Rattle.answers.specs.Numbers.{answerOf}
-use Rattle.cwr.proofs.Refusals.{too-short, long-enough}
-use Rattle.cwr.proofs.in_room.Statement.{statement}
-use Rattle.cwr.proofs.in_room.Tie as tie
+use Rattle.admission.proofs.Room.{too-short, long-enough}
+use Rattle.admission.proofs.in_room.Statement.{statement}
+use Rattle.admission.proofs.in_room.Tie as tie
 
 returns : tie.Need-returns
 returns c =
