@@ -1,12 +1,13 @@
--- STAND-IN: `territorial::told` meets its contract.
-use mathlib.Core.Path.{refl}
+-- `territorial::told` meets its contract.
+use borrow.Author.Needs.{needs}
 use Rattle.territorial.proofs.told.Statement.{statement}
 use Rattle.territorial.proofs.told.Tie as tie
-use Rattle.territorial.specs.Progress.{toldOf}
 
 returns : tie.Need-returns
-unfolding toldOf
-returns c = refl
+returns c = rw (c .if1 .taken)
+
+returns-2 : tie.Need-returns-2
+returns-2 c = rw (c .if1 .left)
 
 pub told-spec : {M : Type 1} → statement M
-told-spec = tie.close (tie.spec returns)
+told-spec = tie.close (tie.spec returns returns-2)
