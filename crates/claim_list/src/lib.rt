@@ -9,7 +9,8 @@ ghost use lib.ListN.{length, take, drop, replicate};
 ghost use Rattle.format.specs.Structure.{mostRecords};
 ghost use Rattle.rules.specs.Values.{largestTolerance};
 ghost use Rattle.rules.specs.Territories.{rightTerritories};
-ghost use Rattle.claims.specs.Entries.{noClaim, overIn};
+ghost use Rattle.claims.specs.Zeros.{noClaim};
+ghost use Rattle.claims.specs.Entries.{overIn};
 ghost use Rattle.parties.specs.Ahead.{entriesAt, Within};
 
 // The first n entries are zeros.

@@ -21,7 +21,8 @@ use Rattle.rules.specs.Collection.{isParty, isClaim, collected, mark, claimed, 
 use Rattle.rules.proofs.Lists.{only-kept, only-left}
 use Rattle.territories.specs.Positions.{placeOf}
 use Rattle.claims.specs.declared.Claim.{Claim}
-use Rattle.claims.specs.Entries.{noClaim, entryOf, entriesFrom, gives, begins, partyWith, speaks, givesWith, comesTo}
+use Rattle.claims.specs.Zeros.{noClaim}
+use Rattle.claims.specs.Entries.{entryOf, entriesFrom, gives, begins, partyWith, speaks, givesWith, comesTo}
 
 -- ---- the last claim
 

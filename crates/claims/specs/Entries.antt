@@ -14,9 +14,7 @@ use Rattle.rules.specs.Territories.{Territory, territoriesIn, codesOf, names, h
 use Rattle.rules.specs.Collection.{isParty, isClaim, collected, mark, claimed, is48}
 use Rattle.territories.specs.Positions.{placeOf}
 use Rattle.claims.specs.declared.Claim.{Claim}
-
-abbrev pub noClaim : Claim
-noClaim = record { party = 0; code = 0; mark = 0; pr = 0; mr = 0; sr = 0 }
+use Rattle.claims.specs.Zeros.{noClaim}
 
 -- ---- from details to entries
 

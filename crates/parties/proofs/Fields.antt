@@ -18,7 +18,8 @@ use Rattle.values.specs.declared.Share.{Share}
 use Rattle.territories.specs.Positions.{placeOf}
 use Rattle.territories.proofs.Laws.{among-place, length-codes}
 use Rattle.edits.proofs.Fields.{one-same}
-use Rattle.claims.specs.Entries.{noClaim, entryOf}
+use Rattle.claims.specs.Zeros.{noClaim}
+use Rattle.claims.specs.Entries.{entryOf}
 use Rattle.parties.specs.Records.{Reads}
 
 -- ---- a field by its place after the shares' start

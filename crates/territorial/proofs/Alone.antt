@@ -8,7 +8,7 @@ use Rattle.claims.specs.declared.Claim.{Claim}
 use Rattle.territorial.specs.declared.Over.{Over}
 use Rattle.territorial.specs.declared.Over.the-variants.{Nowhere, At}
 use Rattle.territorial.specs.declared.Claimed.{Claimed}
-use Rattle.territorial.specs.Promise.{overOf, outcome, OneFits}
+use Rattle.territorial.specs.Promises.{overOf, outcome, OneFits}
 
 -- no two cases stand for one territory
 over-alone : (a b : Over) → overOf a ≡ overOf b → a ≡ b
@@ -25,8 +25,7 @@ one-fits = record {
   check = λ tables table t f cs v g r s cs₁ cs₂ v₁ g₁ v₂ g₂ p q.
       let e = p .is ∙ sym (q .is) in
       let answer = answer-alone (r .answer) (s .answer) (ap (λ (o : RulesClaimed Claim). o .answer) e) in
-      let over = over-alone (r .over) (s .over) (ap (λ (o : RulesClaimed Claim). o .over) e) in
-      (
+      let over = over-alone (r .over) (s .over) (ap (λ (o : RulesClaimed Claim). o .over) e) in (
         λ i. record { answer = answer i; over = over i },
         ap (λ (o : RulesClaimed Claim). o .claims) e,
         ap (λ (o : RulesClaimed Claim). o .verdicts) e,

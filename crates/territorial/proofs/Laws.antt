@@ -28,7 +28,8 @@ use Rattle.buffers.specs.Written.{Written}
 use Rattle.transactions.specs.Walk.{restAt, Position}
 use Rattle.transactions.proofs.Gone.{length-parted}
 use Rattle.claims.specs.declared.Claim.{Claim}
-use Rattle.claims.specs.Entries.{noClaim, entryOf, entriesFrom}
+use Rattle.claims.specs.Zeros.{noClaim}
+use Rattle.claims.specs.Entries.{entryOf, entriesFrom}
 use Rattle.parties.specs.Ahead.{Within, entriesAt}
 use Rattle.collection.specs.declared.Walk.{Walk}
 use Rattle.collection.specs.Walk.{Lent, Standing, Owes, Doubts, Reached, orFound}
@@ -36,8 +37,8 @@ use Rattle.collection.proofs.Known.{entries-fewer}
 use Rattle.territorial.specs.declared.Claimed.{Claimed}
 use Rattle.territorial.specs.declared.Over.the-variants.{Nowhere, At}
 use Rattle.territorial.specs.declared.Progress.{Progress}
-use Rattle.territorial.specs.Promise.{overOf, outcome, Checked, toldOf}
-use Rattle.territorial.specs.Progress.{Going, Passing, Doubt}
+use Rattle.territorial.specs.Promises.{overOf, outcome, Checked}
+use Rattle.territorial.specs.Progress.{Going, Passing, Doubt, toldOf}
 
 -- no more entries than claims
 entries-of-claims : (T : List Territory) (p : ℕ) (ds : List Bytes) → length (entriesFrom T p ds) ≤ length (only isClaim ds)

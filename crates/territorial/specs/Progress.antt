@@ -24,6 +24,8 @@ use Rattle.parties.specs.Ahead.{Within, entriesAt}
 use Rattle.collection.specs.declared.Walk.{Walk}
 use Rattle.collection.specs.declared.Sought.{Sought}
 use Rattle.collection.specs.Walk.{Lent, Reached, stepsLeft as stepsSought}
+use Rattle.territorial.specs.declared.Over.the-variants.{Nowhere, At}
+use Rattle.territorial.specs.declared.Claimed.{Claimed}
 use Rattle.territorial.specs.declared.Progress.{Progress}
 
 -- the walk over the file
@@ -68,6 +70,10 @@ Doubted table t f s over v g =
     × (over ≡ overIn table t (entriesAt f table (s .first) 0))
 
 -- ---- made by the code
+
+-- what is told of the walk once it is at its end
+abbrev pub toldOf : Progress → Claimed
+toldOf s = record { answer = s .answer; over = cond (s .walk .found) (At (s .walk .transaction) (s .walk .territory)) Nowhere }
 
 abbrev pub startWalk : Walk
 startWalk = record { at = 0; index = 0; number = 0; found = false; transaction = 0; territory = 0; header = 0 }

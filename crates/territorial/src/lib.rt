@@ -18,8 +18,8 @@ ghost use Rattle.rules.specs.WithTerritories.{answerWith, inList};
 ghost use Rattle.answers.specs.Numbers.{answerOf, isPassed};
 ghost use Rattle.structure.specs.Cursor.{Here};
 ghost use Rattle.transactions.specs.Walk.{restAt};
-ghost use Rattle.territorial.specs.Promise.{Checked, toldOf};
-ghost use Rattle.territorial.specs.Progress.{Going, Doubted, stepsLeft, startWalk, progressOf, Counted};
+ghost use Rattle.territorial.specs.Promises.{Checked};
+ghost use Rattle.territorial.specs.Progress.{Going, Doubted, stepsLeft, startWalk, progressOf, Counted, toldOf};
 
 // Where the check stands between two transactions in doubt: whether there is one, the byte of its first detail, how much of the list is to be
 // cleared at the end, and the walk over the file.

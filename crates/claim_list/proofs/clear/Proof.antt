@@ -44,7 +44,7 @@ use denote.Triple.Table.{entered}
 use denote.Triple.Walked.{says, needs, Stays, stay-slice, stay-none, walkOf, goes-slice, goes-none, Walks, ends-at, walked, walk-meets}
 use denote.Exit.{yes}
 use Rattle.claims.specs.declared.Claim.{Claim}
-use Rattle.claims.specs.Entries.{noClaim}
+use Rattle.claims.specs.Zeros.{noClaim}
 use Rattle.claims.proofs.Claim as T
 use Rattle.claims.proofs.Claim.Laws as T′
 use Rattle.claim_list.proofs.Walk.{after}

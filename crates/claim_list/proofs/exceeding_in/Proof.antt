@@ -56,7 +56,8 @@ use Rattle.format.specs.Structure.{mostRecords}
 use Rattle.rules.specs.Values.{largestTolerance}
 use Rattle.rules.specs.Territories.{rightTerritories}
 use Rattle.claims.specs.declared.Claim.{Claim}
-use Rattle.claims.specs.Entries.{noClaim, overIn}
+use Rattle.claims.specs.Zeros.{noClaim}
+use Rattle.claims.specs.Entries.{overIn}
 use Rattle.claims.specs.Work.{Counted}
 use Rattle.claims.proofs.Counting.{counted-start}
 use Rattle.claims.proofs.Claim as T

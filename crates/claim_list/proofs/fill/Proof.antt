@@ -51,7 +51,7 @@ use denote.Triple.Walked.{says, needs, Stays, stay-slice, stay-none, stay-none-s
 use denote.Exit.{yes}
 use Rattle.claims.specs.declared.Claim.{Claim}
 use Rattle.parties.specs.declared.Next.{Next}
-use Rattle.claims.specs.Entries.{noClaim}
+use Rattle.claims.specs.Zeros.{noClaim}
 use Rattle.parties.specs.Ahead.{entriesAt, Within, Ahead}
 use Rattle.claims.proofs.Claim as T
 use Rattle.claims.proofs.Claim.Laws as T′

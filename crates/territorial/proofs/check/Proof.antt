@@ -53,7 +53,8 @@ use Rattle.rules.specs.Tables.{Tables as Lookups, tablesOf as lookups}
 use Rattle.rules.specs.Values.{largestTolerance}
 use Rattle.rules.specs.Territories.{rightTerritories}
 use Rattle.claims.specs.declared.Claim.{Claim}
-use Rattle.claims.specs.Entries.{noClaim, overIn}
+use Rattle.claims.specs.Zeros.{noClaim}
+use Rattle.claims.specs.Entries.{overIn}
 use Rattle.parties.specs.Ahead.{entriesAt, Within}
 use Rattle.claims.proofs.Claim as T
 use Rattle.claim_list.proofs.Walk.{after}
@@ -74,8 +75,8 @@ use Rattle.claim_list.proofs.clear.Symbol.{name as #claim-list·clear}
 use Rattle.claim_list.proofs.clear.Met as clear-thm
 use Rattle.territorial.specs.declared.Progress.{Progress}
 use Rattle.territorial.specs.declared.Claimed.{Claimed}
-use Rattle.territorial.specs.Promise.{Checked, toldOf}
-use Rattle.territorial.specs.Progress.{Going, Doubt, stepsLeft}
+use Rattle.territorial.specs.Promises.{Checked}
+use Rattle.territorial.specs.Progress.{Going, Doubt, stepsLeft, toldOf}
 use Rattle.territorial.proofs.Laws.{doubt, ended}
 use Rattle.territorial.proofs.Progress as P
 use Rattle.territorial.proofs.Progress.Laws as P′

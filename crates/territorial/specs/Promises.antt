@@ -1,18 +1,16 @@
 -- What a check with a territory table answers and leaves, and that one outcome alone fits it: proofs/Alone.antt has the proof.
 use Prim.Native.Nat.{ℕ}
 use mathlib.Core.Path.{_≡_}
-use mathlib.Core.Bool.{cond}
 use mathlib.Core.List.{List}
 use Rattle.format.specs.Bytes.{Bytes}
 use Rattle.rules.specs.Tables.{Tables}
 use Rattle.rules.specs.WithTerritories.{Over as RulesOver, nowhere, over, Claimed as RulesClaimed, checkClaims}
 use Rattle.answers.specs.Numbers.{answerOf}
 use Rattle.claims.specs.declared.Claim.{Claim}
-use Rattle.claims.specs.Entries.{noClaim}
+use Rattle.claims.specs.Zeros.{noClaim}
 use Rattle.territorial.specs.declared.Over.{Over}
 use Rattle.territorial.specs.declared.Over.the-variants.{Nowhere, At}
 use Rattle.territorial.specs.declared.Claimed.{Claimed}
-use Rattle.territorial.specs.declared.Progress.{Progress}
 
 abbrev pub overOf : Over → RulesOver
 overOf Nowhere = nowhere
@@ -26,10 +24,6 @@ outcome r cs v g = record { answer = answerOf (r .answer); over = overOf (r .ove
 pub record Checked (tables : Tables) (table : Bytes) (t : ℕ) (f : Bytes) (cs : List Claim) (v g : Bytes) (r : Claimed) (cs' : List Claim)
     (v' g' : Bytes) : Type 0 where
   pub is : outcome r cs' v' g' ≡ checkClaims noClaim tables table t f cs v g
-
--- what is told of the walk once it is at its end
-abbrev pub toldOf : Progress → Claimed
-toldOf s = record { answer = s .answer; over = cond (s .walk .found) (At (s .walk .transaction) (s .walk .territory)) Nowhere }
 
 pub record OneFits : Type 0 where
   pub check : (tables : Tables) (table : Bytes) (t : ℕ) (f : Bytes) (cs : List Claim) (v g : Bytes) (r s : Claimed) (cs₁ cs₂ : List Claim)
