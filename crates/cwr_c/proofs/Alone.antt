@@ -20,9 +20,11 @@ use Rattle.numbering.proofs.Claims.{near}
 use Rattle.cwr.specs.First.{exactFirst}
 use Rattle.cwr.proofs.Firsts.{refused-near}
 use Rattle.cwr_c.specs.Sheet.{sheetAnswer}
+use Rattle.cwr_c.specs.Territories.{claimsAnswer}
 use Rattle.cwr_c.specs.Promises.{OneFits}
 use Rattle.cwr_c.specs.Claims.{OfCheck, ReadOff}
 use Rattle.cwr_c.proofs.Laws.{sheet-near}
+use Rattle.cwr_c.proofs.ClaimsLaws.{claims-near}
 
 pub one-fits : OneFits
 one-fits = record {
@@ -30,6 +32,13 @@ one-fits = record {
   first = λ tables t f r s p q. p ∙ sym q;
   sheet = λ sheet x r s a b p q. (p .0 ∙ sym (q .0), p .1 ∙ sym (q .1));
   number = λ f out r s a b p q. (p .0 ∙ sym (q .0), p .1 ∙ sym (q .1));
+  claims = λ tables table t f cs v g o r s cs₁ cs₂ v₁ g₁ o₁ v₂ g₂ o₂ p q. (
+    p .answer ∙ sym (q .answer),
+    p .claims ∙ sym (q .claims),
+    p .verdicts ∙ sym (q .verdicts),
+    p .findings ∙ sym (q .findings),
+    p .over ∙ sym (q .over),
+  );
 }
 
 says : (r : ℕ) (a : Answer) → r ≡ exact a → Near a → Says r a
@@ -86,6 +95,8 @@ read-off = record {
       never-1 a (checks .short-form tables f v g) (sym (says r a (p .0) (checks .near tables shortTolerance f v g) .0) ∙ e);
   sheet = λ sheet x r sheet' p. says r (sheetAnswer sheet x) (p .0) (sheet-near sheet x);
   number = λ f out r out' p. says r (numberAnswer f (length out)) (p .0) (near f (length out));
+  claims = λ tables table t f cs v g o r cs' v' g' o' p.
+      says r (claimsAnswer tables table t f cs v g o) (p .answer) (claims-near tables table t f cs v g o);
   first-alone = λ tables tables' t t' f f'. one-number _ _ (known tables t f _ refl) (known tables' t' f' _ refl);
   alike = λ a b p q. exact-alone a b (of-check-near a p) (of-check-near b q) (of-check-named a p) (of-check-named b q);
 }

@@ -15,8 +15,10 @@ use Rattle.answers.specs.Numbers.{exact}
 use Rattle.answers.specs.Claims.{Alike, Says}
 use Rattle.numbering.specs.Outcome.{numberAnswer}
 use Rattle.sheet_bytes.specs.Layout.{sheetBytes, sheetIn, bytesOfSheet}
+use Rattle.claims.specs.declared.Claim.{Claim}
 use Rattle.cwr.specs.First.{exactFirst}
 use Rattle.cwr_c.specs.Sheet.{sheetAnswer, sheetBuffer}
+use Rattle.cwr_c.specs.Territories.{claimsAnswer, ClaimsCheckedC}
 use Rattle.cwr_c.specs.Promises.{CheckedC, SheetAddedC, NumberedC}
 
 -- an answer of some check
@@ -31,6 +33,8 @@ pub record ReadOff : Type 0 where
   pub short-form : (tables : Tables) (f v g : Bytes) (r : ℕ) (v' g' : Bytes) → CheckedC tables shortTolerance f v g r v' g' → r / 2 ^ 32 ≢ 1
   pub sheet : (sheet : Bytes) (x : Taken) (r : ℕ) (sheet' : Bytes) → SheetAddedC sheet x r sheet' → Says r (sheetAnswer sheet x)
   pub number : (f out : Bytes) (r : ℕ) (out' : Bytes) → NumberedC f out r out' → Says r (numberAnswer f (length out))
+  pub claims : (tables : Tables) (table : Bytes) (t : ℕ) (f : Bytes) (cs : List Claim) (v g o : Bytes) (r : ℕ) (cs' : List Claim) (v' g' o' : Bytes)
+      → ClaimsCheckedC tables table t f cs v g o r cs' v' g' o' → Says r (claimsAnswer tables table t f cs v g o)
   -- no two outcomes of the search for the first work have the same number,
   pub first-alone : (tables tables' : Tables) (t t' : ℕ) (f f' : Bytes) → exactFirst (first tables t f) ≡ exactFirst (first tables' t' f')
       → first tables t f ≡ first tables' t' f'

@@ -1,10 +1,20 @@
 // The library as C calls it: bytes in and out, and one number for an answer: a refusal's number times 2 to the 32 plus its place, or what
 // was asked for, the number of records or of a transaction. include/cwr.h declares these calls.
 use answers::Answer;
+use claims::Claim;
+use territorial::Claimed;
+use territorial::Over;
+ghost use mathlib.Core.Path.{_≡_};
+ghost use Prim.Native.Nat.{_≤_};
+ghost use lib.ListN.{length};
+ghost use Rattle.format.specs.Bytes.{bytesOf};
 ghost use Rattle.rules.specs.Outcome.{shortTolerance};
 ghost use Rattle.rules.specs.Tables.{tablesOf};
+ghost use Rattle.territorial.specs.Promises.{overOf};
 ghost use Rattle.cwr.specs.Promises.{Counted, Lowest, RightLength};
 ghost use Rattle.cwr_c.specs.Promises.{CheckedC, FirstRejectedC, SheetAddedC, NumberedC};
+ghost use Rattle.cwr_c.specs.Territories.{overBytes, ClaimsCheckedC};
+ghost use Rattle.cwr_c.specs.Told.{refusedOf, packedClaimed, overLeft};
 
 // The short form of the check, for files that go out: without tolerance.
 #[no_mangle]
@@ -123,4 +133,101 @@ pub extern "C" fn cwr_record_length(record: &[u8]) -> u32
     ensures { λ r. ⌜ RightLength (now («record» .entry)) r ⌝ }
 {
     cwr::record_length(record)
+}
+
+// ---- the check with a territory table
+
+// Where the last buffer is too short: the refusals that come before, and else 11.
+fn refuse(
+    file: &[u8],
+    languages: &[u8],
+    societies: &[u8],
+    categories: &[u8],
+    territories: &[u8],
+    tolerance: u64,
+) -> u64
+    ensures { λ r. ⌜ r ≡ refusedOf (tablesOf (now (languages .entry)) (now (societies .entry)) (now (categories .entry)))
+        (now (territories .entry)) tolerance (now (file .entry)) ⌝ }
+{
+    let admitted = admission::admit_with(
+        file,
+        languages,
+        societies,
+        categories,
+        territories,
+        tolerance,
+    );
+    if admitted.passes() {
+        let short = Answer::Short;
+        return short.packed();
+    }
+    admitted.packed()
+}
+
+// The first territory that is over in one word, whose bytes are the transaction's number and then the territory's position.
+fn word_of(over: Over) -> u64
+    ensures { λ w. ⌜ bytesOf 8 w ≡ overBytes (overOf over) ⌝ }
+{
+    match over {
+        Over::Nowhere => 18446744073709551615,
+        Over::At(transaction, territory) => transaction as u64 % 4294967296
+            + territory as u64 % 4294967296 * 4294967296,
+    }
+}
+
+// The answer in one number; and where it is no refusal, the first territory that is over in eight bytes.
+fn tell(r: Claimed, over: &mut [u8]) -> u64
+    requires { ⌜ 8 ≤ length (now over) ⌝ }
+    ensures { λ x. ⌜ (x ≡ packedClaimed r) × (now (over .exit) ≡ overLeft r (now (over .entry))) ⌝ }
+{
+    let answer = r.answer;
+    if !answer.passes() {
+        return answer.packed();
+    }
+    let first = r.over;
+    let word = word_of(first);
+    text::store_eight(word, &mut over[0..8]);
+    answer.packed()
+}
+
+// The check within a tolerance and with a territory table; a list is lent for the claims of one transaction at a time.
+#[no_mangle]
+pub extern "C" fn cwr_check_claims(
+    tolerance: u64,
+    file: &[u8],
+    languages: &[u8],
+    societies: &[u8],
+    categories: &[u8],
+    territories: &[u8],
+    claims: &mut [Claim],
+    verdicts: &mut [u8],
+    findings: &mut [u8],
+    over: &mut [u8],
+) -> u64
+    ensures { λ x. ⌜ ClaimsCheckedC (tablesOf (now (languages .entry)) (now (societies .entry)) (now (categories .entry))) (now (territories .entry)) tolerance
+        (now (file .entry)) (now (claims .entry)) (now (verdicts .entry)) (now (findings .entry)) (now (over .entry)) x
+        (now (claims .exit)) (now (verdicts .exit)) (now (findings .exit)) (now (over .exit)) ⌝ }
+{
+    if over.len() < 8 {
+        return refuse(
+            file,
+            languages,
+            societies,
+            categories,
+            territories,
+            tolerance,
+        );
+    }
+    let r = territorial::check(
+        file,
+        languages,
+        societies,
+        categories,
+        territories,
+        tolerance,
+        claims,
+        verdicts,
+        findings,
+    );
+    tell(r, over)
 }
