@@ -182,6 +182,14 @@ static const struct finding findings[] = {
     [46] = {FR, "REC 3", "zeros",
         "The duration is no time: two digits each for hours, minutes and seconds, the last two at most 59.",
         {WRONG(TIME, "duration", 88, 6)}, POINTS_NOWHERE, NULL},
+    [47] = {TR, "T14, T44", NULL,
+        "In some territory the collection shares of all parties come to more than all of some right (PR, MR or SR), plus the "
+        "tolerance.",
+        {NO_FIELD}, POINTS_NOWHERE, NULL},
+    [48] = {TR, "SPT 6 to 10, SWT 3 to 7", NULL,
+        "A claim's territory is not in the table, its mark is neither I nor E, or a share is not five digits; it is left out of "
+        "the totals.",
+        {NO_FIELD}, POINTS_NOWHERE, NULL},
 };
 
 static const struct refusal refusals[] = {
@@ -199,7 +207,7 @@ static const struct refusal refusals[] = {
     [SHEET_REFUSED] = {PLACE_NOTHING, "The sheet is full: it takes 4,096 files, refused ones counted."},
 };
 
-_Static_assert(sizeof findings / sizeof findings[0] == 47, "findings 0 to 46");
+_Static_assert(sizeof findings / sizeof findings[0] == 49, "findings 0 to 48");
 _Static_assert(sizeof refusals / sizeof refusals[0] == 13, "refusals 1 to 12");
 
 const struct finding *finding_words(uint32_t number) {

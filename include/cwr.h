@@ -15,9 +15,9 @@
  * - A record is the text before a CR LF pair; records count from 0.
  * - The tolerance is how far the totals of a work's shares may be off before they
  *   are findings 1 to 3, in hundredths of a percent: none at all in cwr_check, 6
- *   in cwr_sheet_add, and the caller's choice in the other two calls that judge.
+ *   in cwr_sheet_add, and the caller's choice in the other three calls that judge.
  *
- * What is answered by the first five calls
+ * What is answered by the first six calls
  * - Passed: the number of records, or of a transaction, which is below 2^32.
  * - Refused: the refusal's number times 2^32, plus its place. Then not a byte is
  *   written; only a sheet counts the file, where that is refused by 2 to 10.
@@ -40,8 +40,11 @@
  *   10  the HDR's version is not 2.2, or its revision not 000 to 002  place 0
  *   11  a buffer that is to be written is too short                 place 0
  *   12  the sheet is full: it has taken 4,096 files                 place 0
+ * and in cwr_check_claims besides, 13 after 2, and 14 last of all:
+ *   13  the territory table is not right                            place 0
+ *   14  a transaction has more claims than the list has entries  its header
  *
- * The findings, 0 to 46, are listed in docs/FINDINGS.md: the level of each, its
+ * The findings, 0 to 48, are listed in docs/FINDINGS.md: the level of each, its
  * edit in CISAC's specification, the default, and what it says in words.
  */
 #ifndef CWR_H
@@ -58,6 +61,10 @@ extern "C" {
 #define CWR_MOST_RECORDS 131072u       /* of a file */
 #define CWR_MOST_ENTRIES 1024u         /* of a table */
 #define CWR_LARGEST_TOLERANCE 6u       /* hundredths of a percent */
+#define CWR_MOST_TERRITORIES 512u      /* of a territory table */
+#define CWR_TERRITORY_BYTES 6u         /* of an entry */
+#define CWR_NO_GROUP 65535u            /* a territory that no group holds */
+#define CWR_OVER_BYTES 8u              /* of the first territory that is over */
 #define CWR_LANGUAGE_BYTES 2u          /* of an entry */
 #define CWR_SOCIETY_BYTES 3u           /* of an entry */
 #define CWR_CATEGORY_BYTES 3u          /* of an entry */
@@ -109,6 +116,41 @@ uint64_t cwr_check_within(uint64_t tolerance,
                           const uint8_t *categories, size_t categories_length,
                           uint8_t *verdicts, size_t verdicts_length,
                           uint8_t *findings, size_t findings_length);
+
+/* An entry of the list of claims that cwr_check_claims is lent to work in. */
+struct cwr_claim {
+    uint32_t party, code, mark, pr, mr, sr;
+};
+
+/* The check within a tolerance, with a territory table: findings 47 and 48, about
+ * collection shares, beside all others.
+ *
+ * An entry of the table has six bytes: a code of four, and the position of the
+ * group that holds the territory, counted from 0, least significant byte first;
+ * CWR_NO_GROUP where none does. A group stands before what it holds. The table
+ * is refused by 13 where its length does not fit its entries, it has over 512 of
+ * them, a code stands twice, or a position is not an earlier one. An empty table
+ * is one: every claim then has finding 48.
+ *
+ * `claims` is a list of `claims_count` entries, whatever stands in them. It takes
+ * the claims (SPT, OPT, SWT, OWT) of one transaction at a time; where one has
+ * more, the file is refused by 14. Passed, all its entries are zeros.
+ *
+ * Passed, the first eight bytes of `over` are two numbers of four bytes, least
+ * significant byte first: the number of the first transaction with finding 47,
+ * counted from 0 over the whole file, and the position of the first territory
+ * that is over in it; eight bytes of 255 where no transaction has 47. A shorter
+ * `over` is refused by 11. Refused, nothing is written, the list neither. */
+uint64_t cwr_check_claims(uint64_t tolerance,
+                          const uint8_t *file, size_t file_length,
+                          const uint8_t *languages, size_t languages_length,
+                          const uint8_t *societies, size_t societies_length,
+                          const uint8_t *categories, size_t categories_length,
+                          const uint8_t *territories, size_t territories_length,
+                          struct cwr_claim *claims, size_t claims_count,
+                          uint8_t *verdicts, size_t verdicts_length,
+                          uint8_t *findings, size_t findings_length,
+                          uint8_t *over, size_t over_length);
 
 /* The first work to look at, without judging the rest: the first transaction,
  * counted from 0 over the whole file, one of whose own records, header or

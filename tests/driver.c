@@ -102,8 +102,20 @@ static void release(struct part *part) {
         exit(3);
 }
 
-/* The parts in the order in which they come. */
-enum { THE_FILE, LANGUAGES, SOCIETIES, CATEGORIES, FIRST, SECOND, PARTS };
+/* The parts in the order in which they come: those that are read, then the
+ * buffers. */
+enum {
+    THE_FILE,
+    LANGUAGES,
+    SOCIETIES,
+    CATEGORIES,
+    TERRITORIES,
+    FIRST,
+    SECOND,
+    CLAIMS,
+    OVER,
+    PARTS
+};
 
 /* In the languages' place, where records are lent one by one. */
 enum { LENGTHS = LANGUAGES };
@@ -163,6 +175,16 @@ u64 cwr_check_within(u64 tolerance, const u8 *file, size file_len, const u8 *lan
                      size languages_len, const u8 *societies, size societies_len,
                      const u8 *categories, size categories_len, u8 *verdicts, size verdicts_len,
                      u8 *findings, size findings_len);
+struct cwr_claim {
+    u32 party, code, mark, pr, mr, sr;
+};
+_Static_assert(sizeof(struct cwr_claim) == 24, "size of a claim");
+u64 cwr_check_claims(u64 tolerance, const u8 *file, size file_len, const u8 *languages,
+                     size languages_len, const u8 *societies, size societies_len,
+                     const u8 *categories, size categories_len, const u8 *territories,
+                     size territories_len, struct cwr_claim *claims, size claims_count,
+                     u8 *verdicts, size verdicts_len, u8 *findings, size findings_len, u8 *over,
+                     size over_len);
 u64 cwr_number(const u8 *file, size len, u8 *out, size out_len);
 u32 cwr_findings_count(u64 set);
 u32 cwr_findings_lowest(u64 set);
@@ -202,6 +224,14 @@ static u64 each_record(struct part *parts, u64 guard) {
 
 #define LENT(which) parts[which].bytes, parts[which].length
 
+/* The list of claims: whole entries, so that it lies as its entries must, be
+ * its begin at an edge or its end. */
+static struct cwr_claim *list(const struct part *part) {
+    if (part->length % sizeof(struct cwr_claim) != 0)
+        exit(3);
+    return (void *)part->bytes;
+}
+
 static void call(u8 letter, u64 value, u64 guard, struct part *parts, u64 *answer) {
     if (letter == 'c') {
         answer[0] = cwr_check(LENT(THE_FILE), LENT(LANGUAGES), LENT(SOCIETIES), LENT(CATEGORIES),
@@ -209,6 +239,11 @@ static void call(u8 letter, u64 value, u64 guard, struct part *parts, u64 *answe
     } else if (letter == 'w') {
         answer[0] = cwr_check_within(value, LENT(THE_FILE), LENT(LANGUAGES), LENT(SOCIETIES),
                                      LENT(CATEGORIES), LENT(FIRST), LENT(SECOND));
+    } else if (letter == 'm') {
+        answer[0] = cwr_check_claims(value, LENT(THE_FILE), LENT(LANGUAGES), LENT(SOCIETIES),
+                                     LENT(CATEGORIES), LENT(TERRITORIES), list(&parts[CLAIMS]),
+                                     parts[CLAIMS].length / sizeof(struct cwr_claim), LENT(FIRST),
+                                     LENT(SECOND), LENT(OVER));
     } else if (letter == 'n') {
         answer[0] = cwr_number(LENT(THE_FILE), LENT(FIRST));
     } else if (letter == 'b') {
@@ -229,7 +264,7 @@ static void call(u8 letter, u64 value, u64 guard, struct part *parts, u64 *answe
 #endif
 
 int main(void) {
-    u8 head[34];
+    u8 head[10 + 4 * PARTS];
     while (get(head, 1)) {
         get_all(head + 1, sizeof head - 1);
         struct part parts[PARTS];
@@ -248,8 +283,8 @@ int main(void) {
             store(reply + 8 * which, answer[which], 8);
         reply[24] = sum(parts) != before;
         put(reply, sizeof reply);
-        put(parts[FIRST].bytes, parts[FIRST].length);
-        put(parts[SECOND].bytes, parts[SECOND].length);
+        for (int which = FIRST; which < PARTS; which++)
+            put(parts[which].bytes, parts[which].length);
         for (int which = 0; which < PARTS; which++)
             release(&parts[which]);
     }

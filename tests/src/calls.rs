@@ -2,10 +2,12 @@
 //!
 //! All numbers little-endian. Every request has the same form: letter of the
 //! call, guard (a byte), a u64 (the tolerance, or a set of findings), the u32
-//! lengths of four lent parts (file, languages, societies, categories) and of
-//! two buffers, then the parts and the buffers as they are before the call. A
-//! sheet is the first buffer. What a call doesn't take has length 0. Reply: three u64, a byte that is 1
-//! where a lent part was changed, and the buffers as they are after the call.
+//! lengths of five lent parts (file, languages, societies, categories,
+//! territories) and of four buffers (verdicts, findings, the list of claims,
+//! `over`), then the parts and the buffers as they are before the call. A sheet
+//! or a numbered file is the first buffer. What a call doesn't take has length 0.
+//! Reply: three u64, a byte that is 1 where a lent part was changed, and the
+//! buffers as they are after the call.
 //!
 //! `record` is asked of many records at once, which the driver lends one by one:
 //! they stand in the file's place, one directly after the other, their u32
@@ -14,6 +16,7 @@
 
 use std::io::{self, Read, Write};
 
+use crate::reference::claims::{Room, OVER};
 use crate::reference::first::NO_TRANSACTION;
 use crate::reference::{self, findings, Answer, Tables};
 
@@ -23,6 +26,8 @@ pub enum Call {
     Check,
     /// The check with a tolerance that is lent.
     Within,
+    /// The check with a tolerance, a territory table and a list of claims.
+    Claims,
     /// Numbering.
     Number,
     /// Number and lowest of a set of findings.
@@ -50,9 +55,10 @@ pub enum Program {
 }
 
 impl Call {
-    pub const ALL: [Call; 10] = [
+    pub const ALL: [Call; 11] = [
         Call::Check,
         Call::Within,
+        Call::Claims,
         Call::Number,
         Call::Bits,
         Call::Record,
@@ -67,6 +73,7 @@ impl Call {
         match self {
             Call::Check => "check",
             Call::Within => "within",
+            Call::Claims => "claims",
             Call::Number => "number",
             Call::Bits => "bits",
             Call::Record => "record",
@@ -92,6 +99,7 @@ impl Call {
         match self {
             Call::Check => b'c',
             Call::Within => b'w',
+            Call::Claims => b'm',
             Call::Number => b'n',
             Call::Bits => b'b',
             Call::Record => b'r',
@@ -112,9 +120,14 @@ impl Call {
         !matches!(self, Call::Bits | Call::Record)
     }
 
-    /// Whether it judges records.
+    /// Whether it is the check in one of the forms without a territory table.
     pub fn is_check(self) -> bool {
         matches!(self, Call::Check | Call::Within)
+    }
+
+    /// Whether it judges records: the check in any form.
+    pub fn judges(self) -> bool {
+        self.is_check() || self == Call::Claims
     }
 }
 
@@ -135,6 +148,15 @@ impl Guard {
     const ALL: [Guard; 3] = [Guard::None, Guard::After, Guard::Before];
 }
 
+/// Verdicts and findings, then the list of claims and `over`; or the output of
+/// numbering or the sheet, and nothing.
+pub type Buffers = [Vec<u8>; 4];
+
+/// Those of the calls that have no more than two.
+pub fn two_buffers(first: Vec<u8>, second: Vec<u8>) -> Buffers {
+    [first, second, Vec::new(), Vec::new()]
+}
+
 /// What is asked.
 #[derive(Clone, Debug)]
 pub struct Request {
@@ -145,9 +167,8 @@ pub struct Request {
     pub file: Vec<u8>,
     /// Languages, societies, categories.
     pub tables: [Vec<u8>; 3],
-    /// Verdicts and findings, or the output of numbering or the sheet and
-    /// nothing.
-    pub buffers: [Vec<u8>; 2],
+    pub territories: Vec<u8>,
+    pub buffers: Buffers,
 }
 
 impl Request {
@@ -164,8 +185,9 @@ impl Request {
                 Vec::new(),
                 Vec::new(),
             ],
+            territories: Vec::new(),
             // No type has such a length.
-            buffers: [vec![255; 4 * records.len()], Vec::new()],
+            buffers: two_buffers(vec![255; 4 * records.len()], Vec::new()),
         }
     }
 
@@ -187,12 +209,12 @@ impl Request {
 
     /// The bytes that are sent.
     pub fn bytes(&self) -> Vec<u8> {
-        let [languages, societies, categories] = &self.tables;
-        let [first, second] = &self.buffers;
-        let parts = [&self.file, languages, societies, categories, first, second];
+        let read = [&self.file].into_iter().chain(&self.tables);
+        let read = read.chain([&self.territories]);
+        let parts: Vec<_> = read.chain(&self.buffers).collect();
         let mut bytes = vec![self.call.letter(), self.guard as u8];
         bytes.extend_from_slice(&self.number.to_le_bytes());
-        for part in parts {
+        for part in &parts {
             bytes.extend_from_slice(&(part.len() as u32).to_le_bytes());
         }
         for part in parts {
@@ -203,7 +225,7 @@ impl Request {
 
     /// How long the reply is.
     pub fn reply_length(&self) -> usize {
-        25 + self.buffers[0].len() + self.buffers[1].len()
+        25 + self.buffers.iter().map(Vec::len).sum::<usize>()
     }
 }
 
@@ -214,7 +236,7 @@ pub fn read_request(input: &mut impl Read) -> io::Result<Option<Request>> {
     if input.read(&mut letter)? == 0 {
         return Ok(None);
     }
-    let mut head = [0; 33];
+    let mut head = [0; 45];
     input.read_exact(&mut head)?;
     let mut part = |which: usize| {
         let length = &head[9 + 4 * which..13 + 4 * which];
@@ -227,7 +249,8 @@ pub fn read_request(input: &mut impl Read) -> io::Result<Option<Request>> {
         number: u64::from_le_bytes(head[1..9].try_into().expect("eight bytes")),
         file: part(0)?,
         tables: [part(1)?, part(2)?, part(3)?],
-        buffers: [part(4)?, part(5)?],
+        territories: part(4)?,
+        buffers: [part(5)?, part(6)?, part(7)?, part(8)?],
     }))
 }
 
@@ -247,11 +270,11 @@ pub struct Reply {
     /// Whether a part that was lent for reading is another than before.
     pub changed: bool,
     /// The buffers after the call.
-    pub buffers: [Vec<u8>; 2],
+    pub buffers: Buffers,
 }
 
 impl Reply {
-    pub fn new(answer: Answer, counted: bool, buffers: [Vec<u8>; 2]) -> Reply {
+    pub fn new(answer: Answer, counted: bool, buffers: Buffers) -> Reply {
         let others = match answer {
             Answer::Passed {
                 groups,
@@ -279,31 +302,43 @@ impl Reply {
         u64::from_le_bytes(bytes.try_into().expect("eight bytes"))
     }
 
+    /// The transaction and the territory of `over`, in the answer to `claims`;
+    /// both 255 in each byte for none.
+    pub fn over(&self) -> [u64; 2] {
+        let over = &self.buffers[3];
+        [&over[..4], &over[4..OVER]].map(|bytes| u64::from(u32_of(bytes)))
+    }
+
     /// The lengths that `record` gives, one a record.
     pub fn lengths(&self) -> impl Iterator<Item = u32> + '_ {
         self.buffers[0].chunks_exact(4).map(u32_of)
     }
 
     pub fn bytes(&self) -> Vec<u8> {
-        let mut bytes = Vec::with_capacity(25 + self.buffers[0].len() + self.buffers[1].len());
+        let mut bytes = Vec::new();
         for number in [self.packed, self.others[0], self.others[1]] {
             bytes.extend_from_slice(&number.to_le_bytes());
         }
         bytes.push(u8::from(self.changed));
-        bytes.extend_from_slice(&self.buffers[0]);
-        bytes.extend_from_slice(&self.buffers[1]);
+        for buffer in &self.buffers {
+            bytes.extend_from_slice(buffer);
+        }
         bytes
     }
 
     /// The reply of these bytes to a request.
     pub fn of_bytes(bytes: &[u8], request: &Request) -> Reply {
         let number = |at: usize| u64::from_le_bytes(bytes[at..at + 8].try_into().unwrap());
-        let (first, second) = bytes[25..].split_at(request.buffers[0].len());
+        let mut left = &bytes[25..];
         Reply {
             packed: number(0),
             others: [number(8), number(16)],
             changed: bytes[24] != 0,
-            buffers: [first.to_vec(), second.to_vec()],
+            buffers: request.buffers.each_ref().map(|buffer| {
+                let after;
+                (after, left) = left.split_at(buffer.len());
+                after.to_vec()
+            }),
         }
     }
 
@@ -317,6 +352,13 @@ impl Reply {
                 "passed: {first} groups, {second} transactions, {} records",
                 self.packed
             ),
+            (Call::Claims, 0) => {
+                format!(
+                    "passed: {} records, {}",
+                    self.packed,
+                    describe_over(self.over())
+                )
+            }
             (_, 0) => format!("passed: {} records", self.packed),
             (_, number) => {
                 let place = self.packed & 0xffff_ffff;
@@ -342,6 +384,14 @@ pub fn describe_first(packed: u64) -> String {
     }
 }
 
+/// What `over` says, in words.
+pub fn describe_over([transaction, territory]: [u64; 2]) -> String {
+    match (transaction, territory) {
+        (NO_TRANSACTION, NO_TRANSACTION) => "nothing over".to_string(),
+        _ => format!("over in transaction {transaction}, territory {territory}"),
+    }
+}
+
 pub fn write_reply(output: &mut impl Write, reply: &Reply) -> io::Result<()> {
     output.write_all(&reply.bytes())?;
     output.flush()
@@ -349,31 +399,41 @@ pub fn write_reply(output: &mut impl Write, reply: &Reply) -> io::Result<()> {
 
 /// What the reference answers to a request.
 pub fn expected(request: &Request) -> Reply {
-    let [mut first, mut second] = request.buffers.clone();
+    let mut buffers = request.buffers.clone();
+    let [first, second, list, over] = &mut buffers;
     let (file, tables) = (&request.file, request.tables());
     let answer = match request.call {
-        Call::Check => reference::check_short(file, &tables, &mut first, &mut second),
-        Call::Within => reference::check(request.number, file, &tables, &mut first, &mut second),
-        Call::Number | Call::Counted => reference::numbering(file, &mut first),
-        Call::Sheet => reference::sheet_add(&mut first, file, &tables),
+        Call::Check => reference::check_short(file, &tables, first, second),
+        Call::Within => reference::check(request.number, file, &tables, first, second),
+        Call::Claims => {
+            let room = Room {
+                list,
+                verdicts: first,
+                findings: second,
+                over,
+            };
+            reference::check_claims(request.number, file, &tables, &request.territories, room)
+        }
+        Call::Number | Call::Counted => reference::numbering(file, first),
+        Call::Sheet => reference::sheet_add(first, file, &tables),
         Call::Structure => reference::structure(file),
         Call::Bits => {
             return Reply {
                 packed: u64::from(findings::count(request.number)),
                 others: [u64::from(findings::lowest(request.number)), 0],
                 changed: false,
-                buffers: [first, second],
+                buffers,
             }
         }
         Call::Record => {
             let records = request.records();
             let length = |record: &&[u8]| reference::record_length(record).to_le_bytes();
-            first = records.iter().flat_map(length).collect();
+            *first = records.iter().flat_map(length).collect();
             return Reply {
                 packed: records.len() as u64,
                 others: [0; 2],
                 changed: false,
-                buffers: [first, second],
+                buffers,
             };
         }
         Call::First => {
@@ -381,11 +441,11 @@ pub fn expected(request: &Request) -> Reply {
                 packed: reference::first_rejected(request.number, file, &tables).packed(),
                 others: [0; 2],
                 changed: false,
-                buffers: [first, second],
+                buffers,
             }
         }
         Call::Listing => unreachable!("the listing is no request"),
     };
     let counted = request.call.program() == Program::Probe;
-    Reply::new(answer, counted, [first, second])
+    Reply::new(answer, counted, buffers)
 }

@@ -3,15 +3,18 @@
 
 pub mod boundary;
 pub mod changes;
+pub mod claims;
 pub mod damage;
 pub mod each;
 pub mod lent;
 pub mod right;
 pub mod sheets;
+pub mod territories;
 pub mod values;
 pub mod works;
 
-use crate::calls::{Call, Guard, Request};
+use crate::calls::{two_buffers, Call, Guard, Request};
+use crate::reference::claims::{ENTRY, OVER};
 use crate::reference::lent::{LARGEST_TOLERANCE, SHORT_TOLERANCE, USUAL_TOLERANCE};
 use crate::reference::sheet::BYTES;
 use damage::{Damage, Hand};
@@ -88,11 +91,15 @@ pub struct Case {
     pub kind: String,
     pub file: Vec<u8>,
     pub tables: [Vec<u8>; 3],
+    pub territories: Vec<u8>,
     pub tolerance: u64,
-    /// The buffers as they are before the call: those of the check, and the
-    /// one of numbering.
+    /// The buffers as they are before the call: those of the check, those that
+    /// it has besides where territories are lent, and the one of numbering. The
+    /// list of claims is its entries' bytes.
     pub verdicts: Vec<u8>,
     pub findings: Vec<u8>,
+    pub claims: Vec<u8>,
+    pub over: Vec<u8>,
     pub out: Vec<u8>,
     /// The set whose number and lowest are asked.
     pub set: u64,
@@ -109,8 +116,8 @@ pub struct Case {
 }
 
 impl Case {
-    /// A case with the usual tables, the largest tolerance, buffers that are
-    /// just long enough and a fresh sheet.
+    /// A case with the usual tables, the largest tolerance, buffers and a list
+    /// that are just long enough and a fresh sheet.
     pub fn new(seed: u64, kind: String, file: Vec<u8>, calls: &[Call]) -> Case {
         let mut random = Random::new(seed);
         let mut calls = calls.to_vec();
@@ -123,9 +130,13 @@ impl Case {
         }
         // Nothing for what is not asked.
         let asked = |some: &[Call]| calls.iter().any(|call| some.contains(call));
-        let records = match asked(&[Call::Check, Call::Within]) {
+        let records = match asked(&[Call::Check, Call::Within, Call::Claims]) {
             true => records_in(&file),
             false => 0,
+        };
+        let (entries, over) = match asked(&[Call::Claims]) {
+            true => (claims::most_in(&file), OVER),
+            false => (0, 0),
         };
         let numbered = match asked(&[Call::Number, Call::Counted]) {
             true => file.len(),
@@ -135,9 +146,12 @@ impl Case {
             seed,
             kind,
             tables: lent::usual(),
+            territories: territories::usual(),
             tolerance: LARGEST_TOLERANCE,
             verdicts: random.pattern(records),
             findings: random.pattern(8 * records),
+            claims: random.pattern(ENTRY * entries),
+            over: random.pattern(over),
             out: random.pattern(numbered),
             set: random.draw(),
             records: Vec::new(),
@@ -158,7 +172,7 @@ impl Case {
     pub fn tolerance_of(&self, call: Call) -> Option<u64> {
         match call {
             Call::Check => Some(SHORT_TOLERANCE),
-            Call::Within => Some(self.tolerance),
+            Call::Within | Call::Claims => Some(self.tolerance),
             Call::First => Some(of_checks(&self.calls, self.tolerance)),
             Call::Sheet | Call::Listing => Some(USUAL_TOLERANCE),
             _ => None,
@@ -180,6 +194,7 @@ impl Case {
             number: 0,
             file: Vec::new(),
             tables: Default::default(),
+            territories: Vec::new(),
             buffers: Default::default(),
         };
         if call == Call::Bits {
@@ -188,13 +203,20 @@ impl Case {
         }
         request.file = self.file.clone();
         // The other calls have theirs themselves, or none.
-        if let (Call::Within | Call::First, Some(tolerance)) = (call, self.tolerance_of(call)) {
+        let lent = matches!(call, Call::Within | Call::Claims | Call::First);
+        if let (true, Some(tolerance)) = (lent, self.tolerance_of(call)) {
             request.number = tolerance;
         }
         match call {
             Call::Check | Call::Within => {
                 request.tables = self.tables.clone();
-                request.buffers = [self.verdicts.clone(), self.findings.clone()];
+                request.buffers = two_buffers(self.verdicts.clone(), self.findings.clone());
+            }
+            Call::Claims => {
+                request.tables = self.tables.clone();
+                request.territories = self.territories.clone();
+                let buffers = [&self.verdicts, &self.findings, &self.claims, &self.over];
+                request.buffers = buffers.map(Vec::clone);
             }
             Call::First => request.tables = self.tables.clone(),
             Call::Sheet => {
@@ -290,17 +312,20 @@ pub fn case(seed: u64) -> Option<Case> {
     let kind = kind(seed);
     let mut random = Random::new(seed);
     let tables = lent::tables(&mut random);
+    let territories = territories::any(&mut random);
     let tolerance = lent::tolerance(&mut random);
     // Before the file, which is made for the tolerance of its check.
-    let checks = checks(&mut random);
+    let checks = checks(&kind, &mut random);
     let lent = Lent {
         tables: &tables,
+        territories: &territories,
         tolerance: of_checks(checks, tolerance),
     };
     let file = file(&kind, &lent, &mut random);
     let calls = calls(checks, &kind, &file, &mut random);
     let mut case = Case::new(seed, kind.name(), file, &calls);
     case.tables = tables;
+    case.territories = territories;
     case.tolerance = tolerance;
     if random.one_in(32) {
         case.tolerance = lent::too_large(&mut random);
@@ -308,10 +333,16 @@ pub fn case(seed: u64) -> Option<Case> {
     if random.one_in(20) {
         lent::spoil(&mut case.tables, &mut random);
     }
+    if random.one_in(20) {
+        territories::spoil(&mut case.territories, &mut random);
+    }
+    let entries = claims::list(claims::most_in(&case.file), &mut random);
+    case.claims = random.pattern(ENTRY * entries);
     let records = records_in(&case.file);
     for (buffer, enough, too_short) in [
         (&mut case.verdicts, records, 4),
         (&mut case.findings, 8 * records, 4),
+        (&mut case.over, OVER, 3),
         (&mut case.out, case.file.len(), 8),
     ] {
         let length = lent::length(enough, too_short, &mut random);
@@ -327,8 +358,11 @@ pub fn case(seed: u64) -> Option<Case> {
 
 /// The forms of the check that are compared for a file: mostly one of them. Of
 /// both, the answers are the same where no tolerance is lent, and may be others
-/// where one is.
-fn checks(random: &mut Random) -> &'static [Call] {
+/// where one is. Claims are made for the one that is lent.
+fn checks(kind: &Kind, random: &mut Random) -> &'static [Call] {
+    if matches!(kind, Kind::Claims) {
+        return &[Call::Within];
+    }
     match random.below(16) {
         0..=6 => &[Call::Check],
         7..=13 => &[Call::Within],
@@ -338,9 +372,11 @@ fn checks(random: &mut Random) -> &'static [Call] {
 
 /// The calls that are compared for a file; not all of them for each.
 fn calls(checks: &[Call], kind: &Kind, file: &[u8], random: &mut Random) -> Vec<Call> {
-    let judged = matches!(kind, Kind::Works | Kind::Late | Kind::Right);
+    let claims = matches!(kind, Kind::Claims);
+    let judged = claims || matches!(kind, Kind::Works | Kind::Late | Kind::Right);
     let mut calls = checks.to_vec();
     for (call, times) in [
+        (Call::Claims, if claims { 1 } else { 2 }),
         (Call::Number, if judged { 6 } else { 2 }),
         (Call::Bits, 12),
         (Call::Structure, if judged { 8 } else { 2 }),
@@ -363,6 +399,8 @@ pub enum Kind {
     Works,
     /// Works of several groups, of which only late ones are rejected.
     Late,
+    /// Works with shares by territory.
+    Claims,
     /// Any types and any text.
     Right,
     /// Right but for its number positions.
@@ -375,6 +413,7 @@ impl Kind {
         match self {
             Kind::Works => "works".to_string(),
             Kind::Late => "late".to_string(),
+            Kind::Claims => "claims".to_string(),
             Kind::Right => "right".to_string(),
             Kind::Unnumbered => "right but for its numbers".to_string(),
             Kind::Damaged(damages) => {
@@ -390,8 +429,9 @@ pub fn kind(seed: u64) -> Kind {
     // Not the same numbers as the file's own.
     let mut random = Random::new(seed ^ 0x6B69_6E64_6B69_6E64);
     let damages = match random.below(100) {
-        0..=51 => return Kind::Works,
-        52..=59 => return Kind::Late,
+        0..=46 => return Kind::Works,
+        47..=52 => return Kind::Claims,
+        53..=59 => return Kind::Late,
         60..=64 => return Kind::Right,
         65..=68 => return Kind::Unnumbered,
         69..=83 => 1,
@@ -404,17 +444,18 @@ pub fn kind(seed: u64) -> Kind {
 /// The file of a kind.
 pub fn file(kind: &Kind, lent: &Lent, random: &mut Random) -> Vec<u8> {
     let works = match kind {
-        Kind::Works | Kind::Late => true,
+        Kind::Works | Kind::Late | Kind::Claims => true,
         Kind::Right => false,
         Kind::Unnumbered | Kind::Damaged(_) => random.one_in(2),
     };
     let mut records = match (kind, works) {
         (Kind::Late, _) => works::late(lent, random),
+        (Kind::Claims, _) => claims::records(lent, random),
         (_, true) => works::records(lent, random),
         (_, false) => right::records(random),
     };
     match kind {
-        Kind::Works | Kind::Late | Kind::Right => join(&records),
+        Kind::Works | Kind::Late | Kind::Claims | Kind::Right => join(&records),
         Kind::Unnumbered => {
             damage::unnumber(&mut records, random);
             join(&records)

@@ -1,12 +1,15 @@
 //! What one answer says of another, as a caller would read it off, whoever gave
 //! them. The first work to look at, of the findings that a check has written;
 //! not the reference's way: the transactions are taken one by one, with all
-//! findings of each together. And the records of all files passed, of a sheet.
+//! findings of each together. The first work whose shares are over somewhere, of
+//! the same. And the records of all files passed, of a sheet.
 
 use crate::calls::Reply;
+use crate::reference::claims::OVER;
 use crate::reference::first::NO_TRANSACTION;
 
-/// The findings that the scope marks TR or GR, in its order.
+/// The findings that the scope marks TR or GR, in its order; 47 and 48, which no
+/// call without a territory table sets, are not among them.
 pub const REJECTING: [u32; 33] = [
     0, // GR; the others TR
     1, 2, 3, 4, 5, 6, 7, 8, 9, 10, 11, 12, 13, 14, 15, // over the transaction
@@ -37,6 +40,20 @@ pub fn first_rejected(file: &[u8], checked: &Reply) -> Option<u64> {
     let rejecting: u64 = REJECTING.iter().map(|finding| 1 << finding).sum();
     let transactions = transactions(file, checked);
     let first = transactions.iter().position(|set| set & rejecting != 0);
+    Some(first.map_or(NO_TRANSACTION, |first| first as u64))
+}
+
+/// The transaction that `over` must name, by the findings beside it; none where
+/// it refused. Whatever has answered, there may be less than it says.
+pub fn first_over(file: &[u8], checked: &Reply) -> Option<u64> {
+    let lines: Vec<&[u8]> = file.split_inclusive(|&byte| byte == b'\n').collect();
+    let [_, findings, _, over] = &checked.buffers;
+    if checked.refusal() != 0 || findings.len() < 8 * lines.len() || over.len() < OVER {
+        return None;
+    }
+    let header = |&record: &usize| matches!(lines[record].get(..3), Some(b"NWR" | b"REV"));
+    let mut headers = (0..lines.len()).filter(header);
+    let first = headers.position(|record| checked.set(record) >> 47 & 1 == 1);
     Some(first.map_or(NO_TRANSACTION, |first| first as u64))
 }
 
@@ -86,6 +103,37 @@ mod tests {
         let mut refused = right;
         refused.packed = 11 << 32;
         assert_eq!(first_rejected(&case.file, &refused), None);
+    }
+
+    /// 47 on each header, and on what is none; and answers that say more than
+    /// they hold.
+    #[test]
+    fn read_off_what_is_over() {
+        let records = file("NWR", vec![plain_work(); 3]);
+        let case = Case::new(0, String::new(), join(&records), &[Call::Claims]);
+        let right = expected(&case.request(Call::Claims, Guard::None));
+        assert_eq!(first_over(&case.file, &right), Some(NO_TRANSACTION));
+        for record in 0..10 {
+            let mut reply = right.clone();
+            for at in [record, 6] {
+                reply.buffers[1][8 * at + 5] = 1 << 7;
+            }
+            let answer = match record {
+                2 => 0,
+                4 => 1,
+                _ => 2,
+            };
+            assert_eq!(first_over(&case.file, &reply), Some(answer), "{record}");
+            reply.buffers[1].pop();
+            assert_eq!(first_over(&case.file, &reply), None);
+        }
+        let mut short = right.clone();
+        short.buffers[3].pop();
+        assert_eq!(first_over(&case.file, &short), None);
+        assert_eq!(first_over(b"\n\nX\n", &right), Some(NO_TRANSACTION));
+        let mut refused = right;
+        refused.packed = 14 << 32;
+        assert_eq!(first_over(&case.file, &refused), None);
     }
 
     /// The reference answers what is read off its own findings.

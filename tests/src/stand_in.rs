@@ -4,6 +4,7 @@
 
 use std::slice::{from_raw_parts, from_raw_parts_mut};
 
+use tests::reference::claims::{Room, ENTRY};
 use tests::reference::lent::SHORT_TOLERANCE;
 use tests::reference::{self, findings, Answer, Tables};
 
@@ -105,6 +106,109 @@ pub unsafe extern "C" fn cwr_check(
         findings,
         findings_len,
     )
+}
+
+/// # Safety
+/// As above; and the claims are so many entries.
+#[no_mangle]
+#[allow(clippy::too_many_arguments)]
+pub unsafe extern "C" fn cwr_check_claims(
+    tolerance: u64,
+    file: *const u8,
+    file_len: usize,
+    languages: *const u8,
+    languages_len: usize,
+    societies: *const u8,
+    societies_len: usize,
+    categories: *const u8,
+    categories_len: usize,
+    territories: *const u8,
+    territories_len: usize,
+    claims: *mut [u32; 6],
+    claims_count: usize,
+    verdicts: *mut u8,
+    verdicts_len: usize,
+    findings: *mut u8,
+    findings_len: usize,
+    over: *mut u8,
+    over_len: usize,
+) -> u64 {
+    let tables = Tables {
+        languages: from_raw_parts(languages, languages_len),
+        societies: from_raw_parts(societies, societies_len),
+        categories: from_raw_parts(categories, categories_len),
+    };
+    // Where they begin, numbers of four bytes must be able to.
+    assert!(claims.is_aligned());
+    let answer = reference::check_claims(
+        tolerance,
+        from_raw_parts(file, file_len),
+        &tables,
+        from_raw_parts(territories, territories_len),
+        Room {
+            list: from_raw_parts_mut(claims.cast(), ENTRY * claims_count),
+            verdicts: from_raw_parts_mut(verdicts, verdicts_len),
+            findings: from_raw_parts_mut(findings, findings_len),
+            over: from_raw_parts_mut(over, over_len),
+        },
+    );
+    if fault("claims-reads-after-file") {
+        look(file.add(file_len));
+    }
+    if fault("claims-reads-before-file") {
+        look(file.sub(1));
+    }
+    if fault("claims-reads-after-table") {
+        look(languages.add(languages_len));
+    }
+    if fault("claims-reads-after-territories") {
+        look(territories.add(territories_len));
+    }
+    if fault("claims-reads-before-territories") {
+        look(territories.sub(1));
+    }
+    if fault("claims-reads-first-territory") {
+        look(territories.add(5));
+    }
+    if fault("claims-reads-after-list") {
+        look(claims.add(claims_count).cast());
+    }
+    if fault("claims-writes-after-list") {
+        claims.add(claims_count).cast::<u8>().write_volatile(0);
+    }
+    // Where there are none, it is an edge before which the end lies too.
+    if fault("claims-writes-before-list") && claims_count > 0 {
+        claims.cast::<u32>().sub(1).write_volatile(0);
+    }
+    if fault("claims-writes-first-entry") {
+        claims.cast::<u32>().write_volatile(0);
+    }
+    if fault("claims-writes-after-verdicts") {
+        verdicts.add(verdicts_len).write_volatile(0);
+    }
+    if fault("claims-writes-before-findings") {
+        findings.sub(1).write_volatile(0);
+    }
+    if fault("claims-writes-after-over") {
+        over.add(over_len).write_volatile(0);
+    }
+    if fault("claims-writes-before-over") {
+        over.sub(1).write_volatile(0);
+    }
+    if fault("claims-reads-eight-of-over") {
+        look(over.add(7));
+    }
+    if fault("claims-changes-file") && file_len > 0 {
+        file.cast_mut().write_volatile(0);
+    }
+    if fault("claims-changes-table") && societies_len > 0 {
+        societies.cast_mut().write_volatile(0);
+    }
+    if fault("claims-changes-territories") && territories_len > 0 {
+        let last = territories.add(territories_len - 1).cast_mut();
+        last.write_volatile(!last.read());
+    }
+    answer.packed()
 }
 
 /// # Safety

@@ -69,7 +69,7 @@ fn no_difference() {
     for options in [&["--files", "1500"][..], &["--guard"]] {
         let (code, text) = compare(options, "");
         assert_eq!(code, Some(0), "{text}");
-        for call in ["within", "record", "first", "sheet", "counted"] {
+        for call in ["within", "claims", "record", "first", "sheet", "counted"] {
             assert!(text.contains(&format!("\n{call} ")), "{text}");
         }
     }
@@ -104,11 +104,29 @@ fn faults_about_memory_are_found() {
         ("sheet-reads-last-number", "after", "SIGSEGV"),
         ("sheet-changes-file", "after", "is changed"),
         ("sheet-changes-table", "after", "is changed"),
+        ("claims-reads-after-file", "after", "SIGSEGV"),
+        ("claims-reads-before-file", "before", "SIGSEGV"),
+        ("claims-reads-after-table", "after", "SIGSEGV"),
+        ("claims-reads-after-territories", "after", "SIGSEGV"),
+        ("claims-reads-before-territories", "before", "SIGSEGV"),
+        ("claims-reads-first-territory", "after", "SIGSEGV"),
+        ("claims-reads-after-list", "after", "SIGSEGV"),
+        ("claims-writes-after-list", "after", "SIGSEGV"),
+        ("claims-writes-before-list", "before", "SIGSEGV"),
+        ("claims-writes-first-entry", "after", "SIGSEGV"),
+        ("claims-writes-after-verdicts", "after", "SIGSEGV"),
+        ("claims-writes-before-findings", "before", "SIGSEGV"),
+        ("claims-writes-after-over", "after", "SIGSEGV"),
+        ("claims-writes-before-over", "before", "SIGSEGV"),
+        ("claims-reads-eight-of-over", "after", "SIGSEGV"),
+        ("claims-changes-file", "after", "is changed"),
+        ("claims-changes-table", "after", "is changed"),
+        ("claims-changes-territories", "after", "is changed"),
         ("changes-file", "after", "is changed"),
         ("changes-table", "after", "is changed"),
         ("changes-record", "after", "is changed"),
     ] {
-        let (code, text) = compare(&["--guard", "--files", "100"], fault);
+        let (code, text) = compare(&["--guard"], fault);
         assert_eq!(code, Some(1), "{fault}: {text}");
         assert!(text.starts_with("difference\n"), "{fault}: {text}");
         assert!(

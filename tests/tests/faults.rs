@@ -74,6 +74,8 @@ fn one_call_alone() {
         ("first", "writes-nothing"),
         ("sheet", "first-none-0"),
         ("within", "sheet-afresh"),
+        ("check", "claims-over-none-0"),
+        ("claims", "without-a-table-48"),
     ] {
         let options: Vec<_> = run.into_iter().chain([call]).collect();
         let (code, text) = compare(&options, &["--fault", fault], true);
@@ -81,6 +83,7 @@ fn one_call_alone() {
         let others = [
             "check",
             "within",
+            "claims",
             "number",
             "bits",
             "record",
@@ -139,9 +142,9 @@ fn faults() -> Vec<String> {
 #[test]
 fn each_fault_is_found() {
     let (faults, next) = (faults(), AtomicUsize::new(0));
-    assert!(faults.len() >= 429, "{}", faults.len());
+    assert!(faults.len() >= 738, "{}", faults.len());
     // Each finding has one that begins with its number.
-    for finding in 0..=46 {
+    for finding in 0..=48 {
         let own = |fault: &String| fault.starts_with(&format!("{finding}-"));
         assert!(faults.iter().any(own), "none of finding {finding}");
     }
@@ -165,12 +168,17 @@ fn is_found(number: usize, fault: &str) {
     let listing = fault.starts_with("listing");
     let mut options = vec!["--workers", "1"];
     let of_sheet = fault.starts_with("sheet");
+    let of_claims = ["claims", "47-", "48-"]
+        .iter()
+        .any(|name| fault.starts_with(name));
     // What is read off the findings of the check is compared without this; and
     // other calls need not be asked before.
     if fault.starts_with("first: ") {
         options.extend(["--only", "first"]);
     } else if of_sheet {
         options.extend(["--only", "sheet"]);
+    } else if of_claims {
+        options.extend(["--only", "claims"]);
     }
     match fault {
         "hangs" => options.extend(["--wait", "2"]),
@@ -186,6 +194,11 @@ fn is_found(number: usize, fault: &str) {
     let of_first = fault.starts_with("first") && fault != "first-transaction-only";
     assert_eq!(of_first, entry(&text, "call") == "first", "{fault}: {text}");
     assert_eq!(of_sheet, entry(&text, "call") == "sheet", "{fault}: {text}");
+    assert_eq!(
+        of_claims,
+        entry(&text, "call") == "claims",
+        "{fault}: {text}"
+    );
     // The file that was written is the one whose seed is named.
     let written = std::fs::read(entry(&text, "file")).expect("the file");
     let seed = entry(&text, "seed");
@@ -223,6 +236,16 @@ fn tolerances_are_named() {
         (
             "first-tolerance-always-6",
             "first",
+            &["0", "1", "2", "3", "4", "5"],
+        ),
+        (
+            "claims: tolerance-always-0",
+            "claims",
+            &["1", "2", "3", "4", "5", "6"],
+        ),
+        (
+            "47-tolerance-always-6",
+            "claims",
             &["0", "1", "2", "3", "4", "5"],
         ),
         ("sheet-tolerance-0", "sheet", &["6"]),
@@ -270,6 +293,49 @@ fn first_is_read_off_the_findings() {
         let (code, text) = compare(&["--only", "first"], &["--fault", fault], false);
         assert_eq!(code, Some(1), "{fault}: {text}");
         assert!(!text.contains("read off"), "{text}");
+    }
+}
+
+/// A difference of `claims` tells what is lent besides, what is over, and where
+/// that is not the first of the library's own findings.
+#[test]
+fn claims_are_told() {
+    for (fault, reference, library, read_off) in [
+        (
+            "claims-over-none-0",
+            "nothing over",
+            "over in transaction 0, territory 0",
+            Some("over first: 4294967295"),
+        ),
+        (
+            "claims-over-last-transaction",
+            "over in transaction ",
+            "over in transaction ",
+            Some("over first: "),
+        ),
+        (
+            "claims-over-last-territory",
+            "over in transaction ",
+            "over in transaction ",
+            None,
+        ),
+        ("48-not-for-the-mark", "passed: ", "passed: ", None),
+        ("claims-14-never", "refused 14 at ", "passed: ", None),
+    ] {
+        let options = ["--only", "claims", "--workers", "1"];
+        let (code, text) = compare(&options, &["--fault", fault], false);
+        assert_eq!(code, Some(1), "{fault}: {text}");
+        assert!(entry(&text, "reference").contains(reference), "{text}");
+        assert!(entry(&text, "library").contains(library), "{text}");
+        assert!(entry(&text, "territories").contains(" bytes: \""), "{text}");
+        assert!(
+            text.contains("  claims     a list of ") && text.contains("  over       8 bytes\n"),
+            "{text}"
+        );
+        match read_off {
+            Some(words) => assert!(entry(&text, "read off").starts_with(words), "{text}"),
+            None => assert!(!text.contains("read off"), "{text}"),
+        }
     }
 }
 

@@ -4,7 +4,9 @@ use std::fmt::Write;
 
 use tests::calls::{Call, Guard, Reply, Request};
 use tests::generate::Case;
+use tests::reference::claims::ENTRY;
 use tests::reference::sheet::{FINDINGS, NUMBERS};
+use tests::reference::territories::territories;
 
 /// What all differences tell: the call, the file and how to have it again.
 pub fn head(case: &Case, call: Call, guard: Guard) -> String {
@@ -51,7 +53,7 @@ pub fn of_replies(
     };
     match call {
         Call::Bits => add("set", &format!("{:#x}", request.number)),
-        Call::Check | Call::Within | Call::First | Call::Sheet => {
+        Call::Check | Call::Within | Call::Claims | Call::First | Call::Sheet => {
             if call == Call::Sheet {
                 add("sheet", &write(case, "sheet", &request.buffers[0]));
             }
@@ -65,10 +67,15 @@ pub fn of_replies(
                 }
                 add(name, &words);
             }
+            if call == Call::Claims {
+                add("territories", &of_territories(&request.territories));
+                let entries = request.buffers[2].len() / ENTRY;
+                add("claims", &format!("a list of {entries} entries"));
+            }
         }
         _ => {}
     }
-    for (name, buffer) in ["buffer", "second"].iter().zip(&request.buffers) {
+    for (name, buffer) in BUFFERS.iter().zip(&request.buffers) {
         if !buffer.is_empty() {
             add(name, &format!("{} bytes", buffer.len()));
         }
@@ -85,7 +92,7 @@ pub fn of_replies(
         Ok(library) => library,
     };
     add("library", &library.describe(call));
-    if call.is_check() && reference.packed == library.packed && reference.refusal() == 0 {
+    if call.judges() && reference.packed == library.packed && reference.refusal() == 0 {
         if let Some((name, words)) = of_records(request, reference, library) {
             add(&name, &words);
         }
@@ -100,7 +107,7 @@ pub fn of_replies(
             add("number", &words);
         }
     }
-    for (name, which) in [("buffer", 0), ("second", 1)] {
+    for (which, name) in BUFFERS.iter().enumerate() {
         let (one, other) = (&reference.buffers[which], &library.buffers[which]);
         let differing: Vec<usize> = (0..one.len()).filter(|&at| one[at] != other[at]).collect();
         if let Some(&first) = differing.first() {
@@ -115,6 +122,21 @@ pub fn of_replies(
         }
     }
     text
+}
+
+/// What the buffers are called.
+const BUFFERS: [&str; 4] = ["buffer", "second", "list", "over"];
+
+/// A territory table in words: its first entries, each with its group.
+fn of_territories(table: &[u8]) -> String {
+    let mut words = format!("{} bytes:", table.len());
+    for territory in territories(table).iter().take(12) {
+        let _ = write!(words, " \"{}\"", territory.code.escape_ascii());
+        if let Some(group) = territory.group {
+            let _ = write!(words, " in {group}");
+        }
+    }
+    words
 }
 
 /// The first record that is judged otherwise.

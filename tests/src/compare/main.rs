@@ -16,7 +16,7 @@ use tally::{Tally, TOO_LONG};
 use tests::calls::{describe_first, expected, Call, Guard, Program, Reply, Request};
 use tests::driver::{list, Driver};
 use tests::generate::{case, limits, seeds, spread, Case};
-use tests::read_off::first_rejected;
+use tests::read_off::{first_over, first_rejected};
 use tests::reference;
 
 /// So many files at a time; one sheet is carried over them. Few, since the last
@@ -163,7 +163,8 @@ fn compare_case(
 }
 
 /// Compares a call for a file. What `first` answers is compared with the findings
-/// of the library's own check too, where that was asked before.
+/// of the library's own check too, where that was asked before; what `claims`
+/// says to be over, with those beside it.
 fn compare_call(
     options: &Options,
     case: &Case,
@@ -177,6 +178,10 @@ fn compare_call(
         _ => None,
     };
     let otherwise = |reply: &Reply| {
+        if call == Call::Claims {
+            let answer = first_over(&case.file, reply)?;
+            return (answer != reply.over()[0]).then(|| format!("over first: {answer}"));
+        }
         let answer = read_off.filter(|&answer| answer != reply.packed);
         answer.map(describe_first)
     };

@@ -19,8 +19,8 @@ compare [--files N] [--seed S] [--one SEED [--sheet FILE]] [--limits]
   --sheet FILE    only added to the sheet of these bytes, as a difference names
                   it too: the sheet has all that was added before
   --limits        only the files at the limits
-  --only CALL     one call alone: check, within, number, bits, record, first,
-                  sheet, structure, counted or listing
+  --only CALL     one call alone: check, within, claims, number, bits, record,
+                  first, sheet, structure, counted or listing
   --guard         everything that is lent lies directly before a page that
                   cannot be used, and once more directly after one
   --wait SECONDS  how long an answer may take (300)

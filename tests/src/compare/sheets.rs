@@ -115,7 +115,7 @@ fn compare_order(
             let words = format!("file {seed} is {}", reply.describe(Call::Sheet));
             return Err(differs(&words, &[], &[]));
         }
-        [sheet, _] = reply.buffers;
+        [sheet, ..] = reply.buffers;
     }
     if sheet != forwards {
         return Err(differs("the sheet is another", forwards, &sheet));

@@ -14,13 +14,16 @@ pub const TOO_LONG: u64 = 99;
 /// That of `record` for an unknown type; 0 for a known one.
 const NO_LENGTH: u64 = 98;
 
-/// Those of `first` besides 0, transaction 0: none, a later one of the first
-/// group, and one of a later group.
+/// Those of `first`, and of `claims` for what is over, besides 0, transaction 0:
+/// none, a later one of the first group, and one of a later group.
 const NONE: u64 = 97;
 const LATER: u64 = 96;
 const LATER_GROUP: u64 = 95;
 
-const FINDINGS: usize = 47;
+const FINDINGS: usize = 49;
+
+/// Those that only a call with a territory table sets.
+const OF_CLAIMS: std::ops::Range<usize> = 47..49;
 
 #[derive(Default)]
 pub struct Tally {
@@ -72,11 +75,16 @@ impl Tally {
         if call == Call::First && reply.refusal() == 0 {
             return self.answer(call, answer_of_first(&request.file, reply.packed));
         }
-        self.answer(call, reply.refusal());
+        match (call, reply.refusal()) {
+            (Call::Claims, 0) => {
+                self.answer(call, answer_of_first(&request.file, reply.over()[0]));
+            }
+            (_, refusal) => self.answer(call, refusal),
+        }
         if call == Call::Sheet && reply.refusal() == 0 {
             return self.sheet(&request.buffers[0], &reply.buffers[0]);
         }
-        if !call.is_check() || reply.refusal() != 0 {
+        if !call.judges() || reply.refusal() != 0 {
             return;
         }
         let mut in_file = 0;
@@ -148,11 +156,11 @@ impl Tally {
             }
             // Refusals in their order, then passed.
             let others = [TOO_LONG, NO_LENGTH, NONE, 0, LATER, LATER_GROUP];
-            for answer in (1..=12).chain(others) {
+            for answer in (1..=14).chain(others) {
                 let number = self.answers.get(&(call, answer)).copied().unwrap_or(0);
                 let words = match answer {
                     0 if call == Call::Record => "length".to_string(),
-                    0 if call == Call::First => "at 0".to_string(),
+                    0 if matches!(call, Call::First | Call::Claims) => "at 0".to_string(),
                     NONE => "none".to_string(),
                     LATER => "later".to_string(),
                     LATER_GROUP => "later group".to_string(),
@@ -179,14 +187,22 @@ impl Tally {
             line("sheet     as verdicts", &[self.carried], 15_000);
             line("sheet     other order", &[self.orders], 8);
         }
-        if !options.asked(Call::Check) && !options.asked(Call::Within) {
+        if !Call::ALL
+            .iter()
+            .any(|call| call.judges() && options.asked(*call))
+        {
             return enough;
         }
         let both = options.asked(Call::Check) && options.asked(Call::Within);
         let least = |number: u64| if both { number } else { 0 };
         println!("\nfinding                files    alone  records  at least");
         for (finding, &[records, files, alone]) in self.findings.iter().enumerate() {
-            line(&finding.to_string(), &[files, alone, records], least(200));
+            let least = match OF_CLAIMS.contains(&finding) {
+                true if options.asked(Call::Claims) => 500,
+                true => 0,
+                false => least(200),
+            };
+            line(&finding.to_string(), &[files, alone, records], least);
         }
         println!("\nverdict              records  at least");
         for (verdict, &records) in self.verdicts.iter().enumerate() {
@@ -197,7 +213,8 @@ impl Tally {
     }
 }
 
-/// Which of its answers `first` gave for a file that passed.
+/// Which of its answers `first` gave for a file that passed, or `claims` for the
+/// transaction that is over.
 fn answer_of_first(file: &[u8], transaction: u64) -> u64 {
     let names = file.split(|&byte| byte == b'\n').map(|line| &line[..3]);
     let first_group = names.take_while(|name| name != b"GRT");
@@ -222,22 +239,25 @@ fn least_answer(call: Call, answer: u64) -> u64 {
         (Call::Record, 0) => 15_000,
         (Call::Record, NO_LENGTH) => 1000,
         (Call::Record, _) | (_, NO_LENGTH) => 0,
-        (Call::First, 0 | NONE | LATER | LATER_GROUP) => 500,
+        (Call::First | Call::Claims, 0 | NONE) => 500,
+        (Call::First, LATER | LATER_GROUP) => 500,
+        (Call::Claims, LATER | LATER_GROUP) => 100,
         (_, NONE | LATER | LATER_GROUP) => 0,
-        (Call::Within, 1) => 200,
-        (Call::First, 1) => 200,
+        (Call::Within | Call::First | Call::Claims, 1) => 200,
         (_, 1) => 0,
-        (Call::Check | Call::Within | Call::First | Call::Sheet, 2) => 200,
+        (Call::Check | Call::Within | Call::First | Call::Sheet | Call::Claims, 2) => 200,
         (_, 2) => 0,
-        (Call::Within | Call::First | Call::Sheet | Call::Number, 3 | 5) => 1,
+        (Call::Within | Call::First | Call::Sheet | Call::Number | Call::Claims, 3 | 5) => 1,
         (_, 3 | 5) => 0,
         (Call::Counted, 0 | 4 | 6 | 7 | 10 | 11) => 50,
         (_, 0 | 4 | 6) => 300,
         (_, 7) => 200,
-        (Call::Check | Call::Within | Call::First | Call::Sheet | Call::Structure, 8..=10) => 200,
-        (Call::Check | Call::Within | Call::Sheet, 11) => 200,
-        (Call::Sheet, 12) => 200,
+        (Call::Number | Call::Counted, 8 | 9) => 0,
         (Call::Number, 10 | 11) => 200,
+        (_, 8..=10) => 200,
+        (Call::Check | Call::Within | Call::Sheet | Call::Claims, 11) => 200,
+        (Call::Sheet, 12) => 200,
+        (Call::Claims, 13 | 14) => 300,
         _ => 0,
     }
 }

@@ -3,8 +3,9 @@
 
 use super::damage::unnumber;
 use super::right::{blank, detail, header, named, number as number_all, put, write};
-use super::{join, works, Case, Random};
+use super::{claims, join, works, Case, Random};
 use crate::calls::Call;
+use crate::reference::claims::ENTRY;
 use crate::reference::lines::{LARGEST_FILE, MOST_RECORDS};
 use crate::reference::types::Type;
 
@@ -12,7 +13,7 @@ use crate::reference::types::Type;
 /// since they are large.
 #[derive(Clone, Copy)]
 enum Calls {
-    /// The check, numbering and the structure alone.
+    /// The check, with territories too, numbering and the structure alone.
     All,
     /// The check and numbering.
     Both,
@@ -26,8 +27,12 @@ enum Calls {
     Buffers(isize, isize),
     /// Numbering alone, the buffer so many bytes longer than the file.
     Number(isize),
-    /// The check and numbering, no buffers: something else is refused before.
+    /// The check, with territories too, and numbering, no buffers: something else
+    /// is refused before.
     Refused,
+    /// The check with territories alone, the list so many entries longer than it
+    /// must be.
+    Claims(isize),
 }
 
 type Boundary = (&'static str, Calls, fn(&mut Random) -> Vec<u8>);
@@ -219,6 +224,41 @@ const BOUNDARIES: &[Boundary] = &[
         Calls::Buffers(3, 5),
         |random| join(&of_records(MOST_RECORDS, random)),
     ),
+    // 2^32 and 10000 together, as above, in one territory.
+    (
+        "42,951 claims whose total is 10000 in 32 bits",
+        Calls::Claims(0),
+        |_| join(&of_parties(&[(42_950, "99999"), (1, "20246")])),
+    ),
+    // More parties than sixteen bits count; only two of them claim.
+    (
+        "65,537 parties, the first and the last together over",
+        Calls::Claims(1),
+        |_| join(&of_parties(&[(1, "06000"), (65_535, ""), (1, "04007")])),
+    ),
+    ("131,065 claims of one party", Calls::Claims(0), |random| {
+        join(&of_claims(131_065, random))
+    }),
+    (
+        "131,065 claims of one party, list short",
+        Calls::Claims(-1),
+        |random| join(&of_claims(131_065, random)),
+    ),
+    // One entry, and as many claims in sixteen bits.
+    (
+        "65,537 claims, list of one",
+        Calls::Claims(-65_536),
+        |random| join(&of_claims(65_537, random)),
+    ),
+    (
+        "37,785 transactions, the last over",
+        Calls::Claims(0),
+        |_| {
+            let mut works = vec![works::plain_work(); 37_785];
+            works[37_784].push(claims::claim("SWT", "I", b"0756", [0, 10_007, 0]));
+            join(&works::file("NWR", works))
+        },
+    ),
     // More transactions than fifteen bits count.
     (
         "37,785 transactions, the last rejected",
@@ -253,15 +293,16 @@ pub fn case(seed: u64) -> Option<Case> {
     let (kind, calls, file) = BOUNDARIES.get(usize::try_from(seed).ok()?)?;
     let mut random = Random::new(seed);
     let file = file(&mut random);
-    use Call::{Check, Counted, Number, Structure, Within};
+    use Call::{Check, Claims, Counted, Number, Structure, Within};
     let asked: &[Call] = match calls {
-        Calls::All => &[Within, Number, Structure],
+        Calls::All => &[Within, Claims, Number, Structure],
         Calls::Both => &[Within, Number],
         Calls::Counted => &[Within, Number, Structure, Counted],
         Calls::Check => &[Within],
         Calls::Buffers(..) => &[Check],
         Calls::Number(_) => &[Number],
-        Calls::Refused => &[Check, Number],
+        Calls::Refused => &[Check, Claims, Number],
+        Calls::Claims(_) => &[Claims],
     };
     let mut case = Case::new(seed, kind.to_string(), file, asked);
     let mut longer = |buffer: &mut Vec<u8>, more: isize| {
@@ -277,8 +318,11 @@ pub fn case(seed: u64) -> Option<Case> {
         Calls::Refused => {
             case.verdicts.clear();
             case.findings.clear();
+            case.claims.clear();
+            case.over.clear();
             case.out.clear();
         }
+        Calls::Claims(more) => longer(&mut case.claims, more * ENTRY as isize),
         _ => {}
     }
     Some(case)
@@ -366,6 +410,33 @@ fn of_writers(shares: &[(usize, usize)]) -> Vec<Vec<u8>> {
         let mut writer = writer.clone();
         works::set_shares(&mut writer, [share; 3]);
         work.extend(vec![writer; number]);
+    }
+    works::file("NWR", vec![work])
+}
+
+/// One transaction of other writers: so many that claim this share of MR in one
+/// territory; without one they claim nothing.
+fn of_parties(shares: &[(usize, &str)]) -> Vec<Vec<u8>> {
+    let mut work = works::plain_work();
+    for &(number, share) in shares {
+        let mut party = vec![works::writer("OWR", "C ", [0; 3])];
+        if !share.is_empty() {
+            let mut claim = claims::claim("OWT", "I", b"0276", [0; 3]);
+            put(&mut claim, 34, share);
+            party.push(claim);
+        }
+        work.extend(std::iter::repeat_n(party, number).flatten());
+    }
+    works::file("NWR", vec![work])
+}
+
+/// One transaction of a party with so many claims, of which the last are over.
+fn of_claims(number: usize, random: &mut Random) -> Vec<Vec<u8>> {
+    let mut work = works::plain_work();
+    for at in 0..number {
+        let code = random.of(&[b"0840", b"2136", b"0276", b"9999"]);
+        let share = if at + 40 < number { 1 } else { 10_007 };
+        work.push(claims::claim("SWT", "I", code, [share, 0, 0]));
     }
     works::file("NWR", vec![work])
 }

@@ -1,7 +1,9 @@
 //! Small files that go through every possibility in turn: every type, every
-//! step, every number's byte, every byte value; records by themselves, and sheets.
+//! step, every number's byte, every byte value; shares by territory, records by
+//! themselves, and sheets.
 //! Their seeds are their numbers here, counted from `FIRST`.
 
+mod claims;
 mod judged;
 mod late;
 mod lending;
@@ -33,6 +35,7 @@ fn all() -> &'static [Case] {
         let mut all = Vec::new();
         judged::all(&mut all);
         late::all(&mut all);
+        claims::all(&mut all);
         lending::all(&mut all);
         types(&mut all);
         steps(&mut all);
@@ -48,7 +51,8 @@ fn all() -> &'static [Case] {
     })
 }
 
-/// Adds a file; what else is lent can then be changed.
+/// Adds a file; what else is lent can then be changed. Where a form of the check
+/// is compared, the one with territories is too.
 fn add_with<'a>(
     all: &'a mut Vec<Case>,
     kind: String,
@@ -56,7 +60,11 @@ fn add_with<'a>(
     calls: &[Call],
 ) -> &'a mut Case {
     let seed = FIRST + all.len() as u64;
-    all.push(Case::new(seed, kind, file, calls));
+    let mut calls = calls.to_vec();
+    if calls.iter().any(|call| call.is_check()) {
+        calls.push(Call::Claims);
+    }
+    all.push(Case::new(seed, kind, file, &calls));
     all.last_mut().expect("just added")
 }
 

@@ -1,12 +1,13 @@
 //! The made files are what their kinds say.
 
+mod claims;
 mod tolerances;
 
 use std::collections::{HashMap, HashSet};
 
 use super::damage::{all, FAMILIES};
 use super::*;
-use crate::calls::expected;
+use crate::calls::{expected, two_buffers};
 use crate::read_off::{transactions, REJECTING};
 use crate::reference::first::NO_TRANSACTION;
 use crate::reference::sheet::{Sheet, MOST_FILES};
@@ -59,6 +60,7 @@ fn with_lent<T>(seed: u64, make: impl Fn(&Lent, &mut Random) -> T) -> T {
     let tables = lent::tables(&mut random);
     let lent = Lent {
         tables: &tables,
+        territories: &territories::usual(),
         tolerance: lent::tolerance(&mut random),
     };
     make(&lent, &mut random)
@@ -84,10 +86,8 @@ fn works_pass() {
 #[test]
 fn works_are_nearly_right() {
     let (mut alone, mut by_number) = (HashMap::new(), [0; 65]);
-    for seed in seeds(1, 9000)
-        .into_iter()
-        .filter(|&seed| matches!(kind(seed), Kind::Works))
-    {
+    let seeds = [1, 2].into_iter().flat_map(|run| seeds(run, 9000));
+    for seed in seeds.filter(|&seed| matches!(kind(seed), Kind::Works)) {
         let case = case(seed).unwrap();
         // In the form that it is made for.
         let check = case.calls.iter().rfind(|call| call.is_check()).unwrap();
@@ -147,9 +147,12 @@ fn a_seed_gives_the_same_file() {
         assert_eq!(one.kind, other.kind);
         assert_eq!(one.file, other.file);
         assert_eq!(one.tables, other.tables);
+        assert_eq!(one.territories, other.territories);
         assert_eq!(one.tolerance, other.tolerance);
         assert_eq!(one.verdicts, other.verdicts);
         assert_eq!(one.findings, other.findings);
+        assert_eq!(one.claims, other.claims);
+        assert_eq!(one.over, other.over);
         assert_eq!(one.out, other.out);
         assert_eq!(one.set, other.set);
         assert_eq!(one.records, other.records);
@@ -212,40 +215,46 @@ fn promises_of_numbering() {
 #[test]
 fn boundary_answers() {
     // The refusals of the calls that judge a file, in their order, 0 for passed.
-    let expected_answers: [&[u64]; 36] = [
-        &[3, 3],
+    let expected_answers: [&[u64]; 42] = [
+        &[3, 3, 3],
         &[6, 6],
         &[5, 5],
+        &[4, 4, 4, 4],
         &[4, 4, 4],
-        &[4, 4],
         &[0],
         &[0],
         &[0],
         &[0],
-        &[0, 0, 0],
+        &[0, 0, 0, 0],
         &[0, 0],
         &[11],
         &[0],
         &[3, 3],
-        &[4, 4],
-        &[5, 5],
+        &[4, 4, 4],
+        &[5, 5, 5],
         &[11],
         &[0],
+        &[5, 5, 5, 5],
         &[5, 5, 5],
-        &[5, 5],
         &[4, 4],
         &[6, 6],
         &[7, 7],
         &[9, 10],
-        &[10, 10],
+        &[10, 10, 10],
         &[0, 0, 0, 0],
         &[8],
-        &[0, 0, 0],
+        &[0, 0, 0, 0],
         &[8],
         &[9],
         &[0, 0, 0, 0],
         &[11],
         &[11],
+        &[0],
+        &[0],
+        &[0],
+        &[0],
+        &[14],
+        &[14],
         &[0],
         &[0],
         &[0],
@@ -265,15 +274,20 @@ fn boundary_answers() {
         // As the check, but that no room is needed; numbering looks at less.
         let first = answer(&Call::First);
         match (judging[0], refusals[0]) {
-            (_, 11) => assert_eq!(first, 0),
+            (_, 11 | 14) => assert_eq!(first, 0),
             (Call::Number, 0) => assert_eq!(first, 8),
             (_, refusal) => assert_eq!(first, refusal),
         }
     }
     // The last transaction of so many.
-    for (seed, transaction) in [(34, 37_784), (35, 32_702)] {
+    for (seed, transaction) in [(40, 37_784), (41, 32_702)] {
         let request = case(seed).unwrap().request(Call::First, Guard::None);
         assert_eq!(expected(&request).packed, transaction);
+    }
+    // What is over there.
+    for (seed, over) in [(34, [0, 4]), (35, [0, 4]), (36, [0, 0]), (39, [37_784, 6])] {
+        let request = case(seed).unwrap().request(Call::Claims, Guard::None);
+        assert_eq!(expected(&request).over(), over);
     }
     assert!(case(boundary::number()).is_none());
     assert!(case(each::FIRST + each::number()).is_none());
@@ -297,7 +311,8 @@ fn two_faults() {
     assert_eq!(calls.map(answered), [0x6_0000_0009; 5]);
     assert_eq!(answered(Call::First), 0x6_0000_0009);
     assert_eq!(listing(&case.file), b"REFUSED 6 9\n");
-    let others = [Call::Listing, Call::First, Call::Record];
+    assert_eq!(answered(Call::Claims), 0x6_0000_0009);
+    let others = [Call::Listing, Call::Claims, Call::First, Call::Record];
     assert_eq!(case.calls, [&calls[..], &others].concat());
 }
 
@@ -494,7 +509,7 @@ fn first_of_every_file() {
         assert_eq!(asked, case.lends_a_file(), "{}", case.kind);
         assert_eq!(asked, !aside && case.list.is_empty(), "{}", case.kind);
         let request = case.request(Call::First, Guard::None);
-        assert_eq!(request.buffers, [vec![], vec![]]);
+        assert_eq!(request.buffers, two_buffers(vec![], vec![]));
         assert_eq!((&request.file, &request.tables), (&case.file, &case.tables));
         let check = case.calls.iter().rfind(|call| call.is_check());
         match check {
@@ -536,7 +551,7 @@ fn first_answers_of_a_run() {
         // All findings, with room enough.
         let lines = crate::reference::lines::lines(&case.file);
         request.call = Call::Within;
-        request.buffers = [vec![0; lines.len()], vec![0; 8 * lines.len()]];
+        request.buffers = two_buffers(vec![0; lines.len()], vec![0; 8 * lines.len()]);
         let checked = expected(&request);
         let sets = transactions(&case.file, &checked);
         let position = |taken: u64| sets.iter().position(|set| set & taken != 0);
@@ -701,7 +716,7 @@ fn sheets_of_a_run() {
         };
         let request = case.request(Call::Sheet, Guard::None);
         assert_eq!((&request.file, &request.tables), (&case.file, &case.tables));
-        assert_eq!(request.buffers, [case.sheet.clone(), vec![]]);
+        assert_eq!(request.buffers, two_buffers(case.sheet.clone(), vec![]));
         let (before, after) = (&case.sheet, expected(&request));
         count("too short", before.len() < BYTES);
         count("one byte short", before.len() == BYTES - 1);
@@ -768,7 +783,7 @@ fn sheets_of_a_run() {
         ("refused on any other", 300),
         ("taken", 500),
         ("the last that is taken", 20),
-        ("a sum that reaches its largest number", 100),
+        ("a sum that reaches its largest number", 80),
         ("differences up to the largest", 12),
         ("differences down to the least", 12),
         ("a larger shortfall", 100),

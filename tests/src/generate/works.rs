@@ -4,7 +4,7 @@ use std::cmp::Ordering;
 
 use super::right::{detail, named, number, plain, put, put_bytes};
 use super::values::{right_iswc, writable, DESIGNATIONS};
-use super::{changes, Random};
+use super::{changes, claims, Random};
 use crate::reference::lines::Line;
 use crate::reference::types::find;
 use crate::reference::values::digits;
@@ -16,6 +16,7 @@ pub type Records = Vec<Vec<u8>>;
 /// What a work is made for.
 pub struct Lent<'a> {
     pub tables: &'a [Vec<u8>; 3],
+    pub territories: &'a [u8],
     pub tolerance: u64,
 }
 
@@ -218,7 +219,7 @@ pub fn right(header: &str, lent: &Lent, random: &mut Random) -> Records {
     let mut work = vec![self::header(header, lent, random)];
     let category_ser = &work[0][126..129] == b"SER";
     let mut publishers = publishers(lent, random);
-    let mut writers = writers(&work[0], random);
+    let mut writers = writers(&work[0], lent, random);
     let half = random.of(&[5000, 5000, 0, 2500, 1234]);
     for (right, most) in [half, 2 * half, 10_000 - half].into_iter().enumerate() {
         if random.one_in(8) {
@@ -324,10 +325,10 @@ fn publishers(lent: &Lent, random: &mut Random) -> Records {
             }
             if random.one_in(4) {
                 let territory = if name == "SPU" { "SPT" } else { "OPT" };
-                publishers.push(of(territory, &[]));
+                publishers.push(claims::any(territory, lent.territories, random));
             }
             if random.one_in(8) {
-                publishers.push(of("OPT", &[]));
+                publishers.push(claims::any("OPT", lent.territories, random));
             }
         }
     }
@@ -335,7 +336,7 @@ fn publishers(lent: &Lent, random: &mut Random) -> Records {
 }
 
 /// Writers whose designations fit the header, without shares.
-fn writers(header: &[u8], random: &mut Random) -> Records {
+fn writers(header: &[u8], lent: &Lent, random: &mut Random) -> Records {
     let (music, version) = (&header[136..139] == b"MUS", &header[142..145]);
     let mut writers = Vec::new();
     let (swrs, owrs) = random.of(&[(1, 0), (1, 0), (2, 0), (0, 1), (1, 1), (2, 2)]);
@@ -362,7 +363,8 @@ fn writers(header: &[u8], random: &mut Random) -> Records {
             writers.push(of("NWN", &[]));
         }
         if random.one_in(5) {
-            writers.push(of(if name == "SWR" { "SWT" } else { "OWT" }, &[]));
+            let territory = if name == "SWR" { "SWT" } else { "OWT" };
+            writers.push(claims::any(territory, lent.territories, random));
         }
         if random.one_in(5) {
             writers.push(of("PWR", &[]));

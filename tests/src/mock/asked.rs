@@ -82,7 +82,7 @@ impl Asked {
     /// The tolerance of a check.
     pub fn tolerance(&self) -> u64 {
         match self.call {
-            Call::Within => self.number,
+            Call::Within | Call::Claims => self.number,
             _ => SHORT_TOLERANCE,
         }
     }
@@ -91,7 +91,7 @@ impl Asked {
     /// verdicts go by the changed sets.
     pub fn judged(&self, change: impl Fn(&Asked, &Work, &mut [u64])) -> Reply {
         let mut right = self.right();
-        if !self.call.is_check() || right.refusal() != 0 {
+        if !self.call.judges() || right.refusal() != 0 {
             return right;
         }
         let lines = lines(&self.file);
@@ -115,7 +115,7 @@ impl Asked {
     /// others. Only their fields, or their types, may be changed.
     pub fn as_if(&self, taken: &[u32], change: impl Fn(&mut Vec<u8>)) -> Reply {
         let mut right = self.right();
-        if !self.call.is_check() || right.refusal() != 0 {
+        if !self.call.judges() || right.refusal() != 0 {
             return right;
         }
         let lines = lines(&self.file);

@@ -11,6 +11,7 @@ use tests::reference::verdicts::{level, own, verdicts};
 use tests::reference::{field, findings};
 
 use crate::asked::{place, with_place, Asked};
+use crate::claims::of_a_table;
 use crate::Fault;
 
 /// Faults of the check that this one, which has a tolerance, could have besides
@@ -92,6 +93,23 @@ fn first(asked: &Asked, holds: fn(&[Work], usize) -> bool) -> Reply {
     if right.refusal() == 0 {
         let works = works(asked, &lines(&asked.file));
         let first = (0..works.len()).find(|&at| holds(&works, at));
+        right.packed = first.map_or(NO_TRANSACTION, |first| first as u64);
+    }
+    right
+}
+
+/// The first of the works that is rejected or has this finding, by territories
+/// that nobody has lent.
+fn first_with(asked: &Asked, finding: u32) -> Reply {
+    let mut right = asked.right();
+    if right.refusal() == 0 {
+        let sets = of_a_table(&asked.file, asked.number);
+        let works = works(asked, &lines(&asked.file));
+        let found = |work: &Work| {
+            let sets = &sets[work.records.clone()];
+            work.rejected() || sets.iter().any(|set| set >> finding & 1 == 1)
+        };
+        let first = works.iter().position(found);
         right.packed = first.map_or(NO_TRANSACTION, |first| first as u64);
     }
     right
@@ -261,6 +279,8 @@ pub const FAULTS: &[Fault] = &[
             works[at].rejected() || works[at].has(|n| level(n) == 1)
         })
     }),
+    ("first-with-47", |asked| first_with(asked, 47)),
+    ("first-with-48", |asked| first_with(asked, 48)),
     ("first-of-the-lowest", |asked| {
         // The level of each set's lowest finding.
         first(asked, |works, at| {

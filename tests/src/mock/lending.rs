@@ -14,7 +14,7 @@ use crate::Fault;
 
 /// The number of records, where a check has passed.
 fn judged_records(asked: &Asked, reply: &Reply) -> Option<usize> {
-    (asked.call.is_check() && reply.refusal() == 0).then_some(reply.packed as usize)
+    (asked.call.judges() && reply.refusal() == 0).then_some(reply.packed as usize)
 }
 
 /// The right answer, but that the short form judges these findings with this
@@ -78,11 +78,11 @@ pub const FAULTS: &[Fault] = &[
         _ => asked.right(),
     }),
     ("tolerance-32-bits", |asked| match asked.call {
-        Call::Within => asked.with(|request| request.number &= 0xffff_ffff),
+        Call::Within | Call::Claims => asked.with(|request| request.number &= 0xffff_ffff),
         _ => asked.right(),
     }),
     ("tolerance-8-bits", |asked| match asked.call {
-        Call::Within => asked.with(|request| request.number &= 0xff),
+        Call::Within | Call::Claims => asked.with(|request| request.number &= 0xff),
         _ => asked.right(),
     }),
     // As before M-104, with the least there is, and as before in one finding
@@ -110,14 +110,14 @@ pub const FAULTS: &[Fault] = &[
     }),
     ("tolerance-always-6", |asked| {
         match (asked.call, asked.number) {
-            (Call::Within, 0..=5) => asked.with(|request| request.number = 6),
+            (Call::Within | Call::Claims, 0..=5) => asked.with(|request| request.number = 6),
             _ => asked.right(),
         }
     }),
     ("tolerance-always-0", |asked| {
         // As the short form.
         match (asked.call, asked.number) {
-            (Call::Within, 1..=6) => asked.with(|request| request.number = 0),
+            (Call::Within | Call::Claims, 1..=6) => asked.with(|request| request.number = 0),
             _ => asked.right(),
         }
     }),
@@ -183,7 +183,7 @@ pub const FAULTS: &[Fault] = &[
         let full = asked.tables[0].len() == 2048;
         let right = asked.right();
         match right.refusal() {
-            0 if full && asked.call.is_check() => asked.refused(2, 0),
+            0 if full && asked.call.judges() => asked.refused(2, 0),
             _ => right,
         }
     }),
@@ -226,14 +226,14 @@ pub const FAULTS: &[Fault] = &[
     ("short-verdicts", |asked| {
         let right = asked.right();
         match right.refusal() {
-            11 if asked.call.is_check() => asked.with(|request| request.buffers[0].push(0)),
+            11 if asked.call.judges() => asked.with(|request| request.buffers[0].push(0)),
             _ => right,
         }
     }),
     ("short-findings", |asked| {
         let right = asked.right();
         match right.refusal() {
-            11 if asked.call.is_check() => asked.with(|request| {
+            11 if asked.call.judges() => asked.with(|request| {
                 let length = request.buffers[1].len();
                 request.buffers[1].resize(length + 7, 0);
             }),
@@ -243,7 +243,7 @@ pub const FAULTS: &[Fault] = &[
     ("findings-one-byte-each", |asked| {
         let right = asked.right();
         match right.refusal() {
-            11 if asked.buffers[1].len() >= asked.pairs() && asked.call.is_check() => {
+            11 if asked.buffers[1].len() >= asked.pairs() && asked.call.judges() => {
                 asked.with(|request| request.buffers[1].resize(8 * asked.pairs(), 0))
             }
             _ => right,
@@ -251,7 +251,7 @@ pub const FAULTS: &[Fault] = &[
     }),
     ("eleven-first", |asked| {
         let right = asked.right();
-        let short = asked.call.is_check() && asked.buffers[0].is_empty();
+        let short = asked.call.judges() && asked.buffers[0].is_empty();
         match right.refusal() {
             8..=10 if short => asked.refused(11, 0),
             _ => right,
@@ -284,14 +284,14 @@ pub const FAULTS: &[Fault] = &[
     }),
     ("writes-on-refusal", |asked| {
         let mut right = asked.right();
-        if asked.call.is_check() && right.refusal() == 11 {
+        if asked.call.judges() && right.refusal() == 11 {
             right.buffers[1].fill(0);
         }
         right
     }),
     ("writes-nothing", |asked| {
         let mut right = asked.right();
-        if asked.call.is_check() {
+        if asked.call.judges() {
             right.buffers = asked.buffers.clone();
         }
         right
@@ -414,7 +414,7 @@ pub const FAULTS: &[Fault] = &[
     }),
     ("changes-what-is-lent", |asked| {
         let mut right = asked.right();
-        right.changed = asked.call.is_check() && right.refusal() == 9;
+        right.changed = asked.call.judges() && right.refusal() == 9;
         right
     }),
     ("outside, guarded", |asked| {

@@ -1,8 +1,10 @@
 //! Faults of the listing program.
 
+use tests::reference::lent::USUAL_TOLERANCE;
 use tests::reference::listing;
 use tests::reference::listing::listing_within;
 
+use crate::claims::of_a_table;
 use crate::ListingFault;
 
 /// The right listing, in which a text takes another's place.
@@ -18,6 +20,27 @@ fn lines(input: &[u8], change: fn(&mut Vec<&str>)) -> Vec<u8> {
     for line in right.lines() {
         let mut words: Vec<_> = line.split(' ').collect();
         change(&mut words);
+        changed += &words.join(" ");
+        changed += "\n";
+    }
+    changed.into_bytes()
+}
+
+/// The number of findings with this one too, by territories that nobody has lent.
+fn with_finding(input: &[u8], finding: u32) -> Vec<u8> {
+    let right = listing(input);
+    if !right.starts_with(b"GROUPS") {
+        return right;
+    }
+    let sets = of_a_table(input, USUAL_TOLERANCE);
+    let mut changed = String::new();
+    for (line, text) in String::from_utf8_lossy(&right).lines().enumerate() {
+        let mut words: Vec<String> = text.split(' ').map(String::from).collect();
+        // The first line is no record's.
+        if line > 0 && sets[line - 1] >> finding & 1 == 1 {
+            let number: u64 = words[3].parse().expect("a number");
+            words[3] = (number + 1).to_string();
+        }
         changed += &words.join(" ");
         changed += "\n";
     }
@@ -73,6 +96,8 @@ pub const FAULTS: &[ListingFault] = &[
     }),
     ("listing-tolerance-0", |input| listing_within(0, input)),
     ("listing-tolerance-5", |input| listing_within(5, input)),
+    ("listing-47", |input| with_finding(input, 47)),
+    ("listing-48", |input| with_finding(input, 48)),
     ("listing-empty", |input| match input {
         [] => b"REFUSED 4 0\n".to_vec(),
         _ => listing(input),

@@ -5,10 +5,12 @@
 //!     mock [--listing] [--fault NAME]      mock --faults
 
 mod asked;
+mod claims;
 mod findings;
 mod first;
 mod lending;
 mod listing;
+mod lists;
 mod record;
 mod sheet;
 mod structure;
@@ -35,6 +37,9 @@ fn faults() -> impl Iterator<Item = &'static Fault> {
         .chain(record::FAULTS)
         .chain(first::FAULTS)
         .chain(sheet::FAULTS)
+        .chain(claims::WITHOUT_A_TABLE)
+        .chain(claims::FAULTS)
+        .chain(lists::FAULTS)
 }
 
 /// Faults of the check that each call could have that checks in its own way.
@@ -70,9 +75,10 @@ const SHARED: &[&str] = &[
 ];
 
 /// Such a call has them under names that begin so; and those of its own.
-const SHARING: [(&str, Call, &[&str]); 2] = [
+const SHARING: [(&str, Call, &[&str]); 3] = [
     ("first: ", Call::First, first::SHARED),
     ("sheet: ", Call::Sheet, &[]),
+    ("claims: ", Call::Claims, lists::SHARED),
 ];
 
 fn main() -> io::Result<()> {
@@ -133,8 +139,8 @@ fn main() -> io::Result<()> {
     Ok(())
 }
 
-/// Whether a fault is one of this call: those of `record`, `first` and `sheet`
-/// are of no other, nor others of them but where they share one.
+/// Whether a fault is one of this call: those of `record`, `first`, `sheet` and
+/// `claims` are of no other, nor others of them but where they share one.
 fn concerns(name: &str, sharing: Option<Call>, call: Call) -> bool {
     if sharing.is_some() {
         return sharing == Some(call);
@@ -143,6 +149,8 @@ fn concerns(name: &str, sharing: Option<Call>, call: Call) -> bool {
         (Call::Record, record::FAULTS),
         (Call::First, first::FAULTS),
         (Call::Sheet, sheet::FAULTS),
+        (Call::Claims, claims::FAULTS),
+        (Call::Claims, lists::FAULTS),
     ];
     let among = |faults: &[Fault]| faults.iter().any(|(fault, _)| *fault == name);
     match apart.iter().find(|(_, faults)| among(faults)) {

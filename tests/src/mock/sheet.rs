@@ -5,8 +5,9 @@ use std::ops::Range;
 use std::process::exit;
 use std::sync::atomic::{AtomicU64, Ordering};
 
-use tests::calls::{expected, Call, Guard, Reply, Request};
+use tests::calls::{expected, two_buffers, Call, Guard, Reply, Request};
 use tests::generate::works::share_start;
+use tests::reference::lent::USUAL_TOLERANCE;
 use tests::reference::lines::lines;
 use tests::reference::sheet::{judge, Judged, Right, Sheet, BYTES, MOST_FILES, NUMBERS};
 use tests::reference::types::Class;
@@ -14,6 +15,7 @@ use tests::reference::values::digits;
 use tests::reference::verdicts::own;
 
 use crate::asked::{classes, with_place, Asked};
+use crate::claims::of_a_table;
 use crate::Fault;
 
 const FULL: u64 = 10_000;
@@ -158,6 +160,16 @@ fn totals_without(asked: &Asked, types: &[&[u8; 3]]) -> Reply {
     })
 }
 
+/// Counts this finding too, by territories that nobody has lent.
+fn with_finding(asked: &Asked, finding: u32) -> Reply {
+    as_if(asked, |asked, judged| {
+        let more = of_a_table(&asked.file, USUAL_TOLERANCE);
+        for (set, more) in judged.sets.iter_mut().zip(more) {
+            *set |= more & 1 << finding;
+        }
+    })
+}
+
 /// Its check has this tolerance.
 fn checked_within(asked: &Asked, tolerance: u64) -> Reply {
     as_if(asked, |asked, judged| {
@@ -165,7 +177,7 @@ fn checked_within(asked: &Asked, tolerance: u64) -> Reply {
         let checked = expected(&Request {
             call: Call::Within,
             number: tolerance,
-            buffers: [vec![0; records], vec![0; 8 * records]],
+            buffers: two_buffers(vec![0; records], vec![0; 8 * records]),
             ..asked.0.clone()
         });
         judged.sets = (0..records).map(|record| checked.set(record)).collect();
@@ -637,6 +649,8 @@ pub const FAULTS: &[Fault] = &[
             judged.sets.iter_mut().for_each(|set| *set &= !(1 << 46));
         })
     }),
+    ("sheet-findings-47", |asked| with_finding(asked, 47)),
+    ("sheet-findings-48", |asked| with_finding(asked, 48)),
     ("sheet-findings-of-rejected-groups", |asked| {
         // Those of a group that falls are not counted.
         as_if(asked, |_, judged| {

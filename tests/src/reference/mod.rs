@@ -2,6 +2,7 @@
 //! Where two readers could differ, the agreed readings decide.
 
 pub mod check;
+pub mod claims;
 pub mod findings;
 pub mod first;
 pub mod lent;
@@ -11,11 +12,13 @@ pub mod numbering;
 pub mod numbers;
 pub mod sheet;
 pub mod structure;
+pub mod territories;
 pub mod types;
 pub mod values;
 pub mod verdicts;
 
 pub use check::{check, check_short};
+pub use claims::check_claims;
 pub use first::{first_rejected, First};
 pub use lent::Tables;
 pub use listing::listing;

@@ -19,6 +19,7 @@ pub fn level(finding: u32) -> u8 {
         41 | 42 => 3,
         43 | 44 => 2,
         45 | 46 => 1,
+        47 | 48 => 3,
         _ => unreachable!("no such finding"),
     }
 }

@@ -1,6 +1,7 @@
 //! The findings, each a function with its number.
 
 pub mod chains;
+pub mod claims;
 pub mod details;
 pub mod header;
 pub mod order;

@@ -21,7 +21,7 @@ pub fn set(transaction: &Transaction) -> u64 {
 }
 
 /// PR, MR and SR together of all these shares.
-fn total(shares: impl Iterator<Item = [u64; 3]>) -> [u64; 3] {
+pub fn total(shares: impl Iterator<Item = [u64; 3]>) -> [u64; 3] {
     shares.fold([0; 3], |sum, shares| {
         [sum[0] + shares[0], sum[1] + shares[1], sum[2] + shares[2]]
     })

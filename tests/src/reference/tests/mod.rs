@@ -1,5 +1,6 @@
 //! Expectations made by hand from the scope and its readings.
 
+mod claims;
 mod findings;
 mod first;
 mod lent;

@@ -70,9 +70,9 @@ fn a_rejected_group() {
 #[test]
 fn levels_of_the_scope() {
     use crate::reference::verdicts::level;
-    let of = |wanted: u8| (0..=46).filter(|&n| level(n) == wanted).collect::<Vec<_>>();
+    let of = |wanted: u8| (0..=48).filter(|&n| level(n) == wanted).collect::<Vec<_>>();
     assert_eq!(of(4), [0]);
     assert_eq!(of(1), [19, 20, 23, 33, 34, 35, 36, 37, 40, 45, 46]);
     assert_eq!(of(2), [24, 43, 44]);
-    assert_eq!(of(3).len(), 47 - 1 - 11 - 3);
+    assert_eq!(of(3).len(), 49 - 1 - 11 - 3);
 }
