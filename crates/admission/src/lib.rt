@@ -1,4 +1,5 @@
 // Whether a file is let in with its tables and a tolerance: refusals 1 to 10, and 13 with a territory table, before any buffer is looked at.
+#![tactic(auto)]
 ghost use Rattle.std.specs.Prelude.{◌≡◌};
 ghost use Rattle.rules.specs.Tables.{tables_of};
 ghost use Rattle.format.specs.Lent.{in_room};
@@ -11,7 +12,7 @@ use answers::Answer;
 use values::Share;
 
 // What is lent beside the file, by refusals 1 and 2.
-#[derive(Drop)]
+#[derive(Clone, Copy)]
 enum Lent {
     Right,
     Refused(Answer),

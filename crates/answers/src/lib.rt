@@ -1,11 +1,13 @@
 // What a call answers: a refusal, by its ground, or how many groups, transactions and records passed. specs/Numbers.antt gives each
 // case its number and place.
+#![tactic(auto)]
+
 ghost use Rattle.std.specs.Prelude.{◌≡◌, ◌≤◌};
 ghost use Rattle.format.specs.Structure.{refused};
 ghost use Rattle.answers.specs.Numbers.{answer_of, told_of, is_passed};
 ghost use Rattle.answers.specs.Packed.{packed_of};
 
-#[derive(Drop)]
+#[derive(Clone, Copy)]
 pub enum Answer {
     // 1, 2: the tolerance; which of the three tables.
     Tolerance,
@@ -34,7 +36,7 @@ pub enum Answer {
 pub const MOST_RECORDS: usize = 131072;
 
 // An answer in numbers; those that it has not are 0.
-#[derive(Drop)]
+#[derive(Clone, Copy)]
 pub struct Told {
     pub passes: bool,
     // The refusal's number and its place.

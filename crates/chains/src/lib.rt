@@ -1,5 +1,6 @@
 // The chains of publishers in a transaction, findings 11 to 14 and 32: one tally for each two-digit sequence number, 00 to 99, all empty
 // at the start.
+#![tactic(auto)]
 ghost use Rattle.std.specs.Prelude.{◌≡◌, true, false, cond, List, [], ◌∷◌, ◌++◌, ◌≤◌, ◌<◌};
 ghost use Rattle.format.specs.Bytes.{Bytes};
 ghost use Rattle.rules.specs.Records.{is_type, any};
@@ -11,7 +12,7 @@ ghost use Rattle.chains.specs.Tallies.{begun_by, own_shares, TallyOf, chains_of,
 use edits::publisher::{Publisher, Sequence};
 
 // What the chains have shown so far.
-#[derive(Drop)]
+#[derive(Clone, Copy)]
 pub struct Met {
     // Finding 11: some chain has more than one E.
     pub many: bool,

@@ -1,5 +1,7 @@
 // One of two values, by a condition. As a call, it stands inside an expression; whoever proves an expression with it has one case and not
 // two.
+#![tactic(auto)]
+
 ghost use Rattle.std.specs.Prelude.{◌≡◌, cond, ℕ, ◌≤◌};
 
 pub fn byte(c: bool, a: u8, b: u8) -> u8

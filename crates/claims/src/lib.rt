@@ -1,5 +1,6 @@
 // The claims of a transaction as entries of a list, and what they come to in each territory. In a work table there are eight words for a
 // territory: whether the entry at hand speaks of it, and by right what the party at hand gives there and what the parties before it gave.
+#![tactic(auto)]
 ghost use Rattle.std.specs.Prelude.{◌≡◌, true, false, cond, ◌&&◌, ◌||◌, List, [], ◌∷◌, ◌++◌, ℕ, ◌+◌, ◌*◌, ◌^◌, ◌<◌, ◌≤◌, eqb, ltb, length, get_or, replicate};
 ghost use Rattle.rules.specs.Values.{full_share, largest_tolerance};
 ghost use Rattle.rules.specs.Totals.{PR, MR, SR, exceeds};
@@ -14,7 +15,7 @@ use values::Share;
 
 // One claim, as the caller's list holds it. A C program lends the list, so that any bytes may stand in it before.
 #[repr(C)]
-#[derive(Drop)]
+#[derive(Clone, Copy)]
 pub struct Claim {
     // The number of its party in the transaction, from 1; 0 for a claim before any party, or one that is ignored.
     pub party: u32,

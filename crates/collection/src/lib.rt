@@ -1,6 +1,7 @@
 // The collection shares of a file that is right by 3 to 10, once the check without territories has filled both buffers: findings 47 and 48 are
 // set beside those that stand there, and the verdicts of their transactions raised. Most transactions need no look at any territory: where
 // each party's largest share fits, none can be over. A walk goes on to the next transaction in doubt, whose claims its caller counts.
+#![tactic(auto)]
 ghost use Rattle.std.specs.Prelude.{◌≡◌, Bool, true, false, cond, ◌&&◌, List, [], ◌∷◌, ◌++◌, ℕ, ◌+◌, ◌-◌, ◌*◌, ◌/◌, ◌<◌, ◌≤◌, length, take, drop};
 ghost use Rattle.format.specs.Bytes.{Bytes};
 ghost use Rattle.format.specs.Table.{head};
@@ -69,7 +70,7 @@ fn raise(rejected: bool, from: usize, end: usize, verdicts: &mut [u8])
 // ---- the claims of a transaction
 
 // What is known of its details so far: how many parties, whether some claim has 48, and the largest shares.
-#[derive(Drop)]
+#[derive(Clone, Copy)]
 pub struct Tally {
     pub party: u32,
     pub wrong: bool,
@@ -162,7 +163,7 @@ fn judge_detail(
 }
 
 // After the last detail: where the next record begins, its number and its class.
-#[derive(Drop)]
+#[derive(Clone, Copy)]
 pub struct Details {
     pub at: usize,
     pub index: usize,
@@ -250,7 +251,7 @@ fn judge_details(
 
 // Before a record of that number, which begins at that byte and is no detail, and of the transaction of that number. Where some territory
 // was found to be over, the first such, with its transaction; and the number of the latest header.
-#[derive(Drop)]
+#[derive(Clone, Copy)]
 pub struct Walk {
     pub at: usize,
     pub index: usize,
@@ -262,7 +263,7 @@ pub struct Walk {
 }
 
 // The walk goes on from there; or the latest transaction is in doubt, and its first detail begins at that byte.
-#[derive(Drop)]
+#[derive(Clone, Copy)]
 pub struct Sought {
     pub walk: Walk,
     pub doubtful: bool,

@@ -1,5 +1,6 @@
 // What a sheet tells of a file that is right by 3 to 10 (M-103). The walk is the check's, but nothing is written: how many records carry each
 // finding and how many have each level is counted as they come, and the levels are raised at the end of a transaction or a group.
+#![tactic(auto)]
 ghost use Rattle.std.specs.Prelude.{◌≡◌, ◌+◌, ◌≤◌, length};
 ghost use Rattle.format.specs.Table.{hdr, grh, grt, head, unknown};
 ghost use Rattle.format.specs.Cwr22.{cwr22};
@@ -26,7 +27,7 @@ use transactions::{Passed, Purpose};
 // ---- a transaction
 
 // The walk has passed it; and its totals.
-#[derive(Drop)]
+#[derive(Clone, Copy)]
 pub struct Counted {
     pub passed: Passed,
     pub total: Rights,
@@ -91,7 +92,7 @@ fn count_transaction(
 // ---- a group
 
 // After some transactions of a group: where the walk stands, and what the transactions of the file so far miss of the full share.
-#[derive(Drop)]
+#[derive(Clone, Copy)]
 pub struct Run {
     pub passed: Passed,
     pub missing: Missing,
@@ -145,7 +146,7 @@ fn count_transactions(
 }
 
 // After some groups.
-#[derive(Drop)]
+#[derive(Clone, Copy)]
 pub struct Section {
     pub next: Next,
     pub missing: Missing,

@@ -1,4 +1,5 @@
 // What a walk over the records of a file counts, and the numbers that each record has to carry: compared, and written.
+#![tactic(auto)]
 ghost use Rattle.std.specs.Prelude.{◌≡◌, ◌++◌, cond, ◌+◌, ◌-◌, ◌≤◌, length, take, drop};
 ghost use Rattle.format.specs.Bytes.{same_bytes, decimal, bytes_of};
 ghost use Rattle.format.specs.Fields.{field_of};
@@ -11,7 +12,7 @@ ghost use Rattle.counts.specs.Carried.{pair, words, digits_of, start_of, size_of
 use kinds::{DETAIL, GRH, GRT, HEAD, TRL};
 
 // What was counted before a record, as the format's `Counts`.
-#[derive(Drop)]
+#[derive(Clone, Copy)]
 pub struct Counts {
     // Groups begun, and transactions begun in all of them.
     pub groups: u64,
@@ -39,7 +40,7 @@ const ONE: u64 = 0x3130303030303030;
 const TWO: u64 = 0x3230303030303030;
 
 // The numbers that a record carries in its number positions.
-#[derive(Drop)]
+#[derive(Clone, Copy)]
 pub enum Numbers {
     // HDR, and a record of no type, has none.
     Nothing,

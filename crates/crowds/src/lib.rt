@@ -1,5 +1,6 @@
 // Refusal 14 of a check with a territory table (M-105): the first transaction with more claims than the lent list has entries, in a file that is
 // right by 3 to 10. One walk over all records, which stops at the first claim that is too many.
+#![tactic(auto)]
 ghost use Rattle.std.specs.Prelude.{◌≡◌, ◌+◌, ◌<◌, ◌≤◌, length};
 ghost use Rattle.format.specs.Table.{unknown};
 ghost use Rattle.format.specs.Structure.{most_bytes, most_records};
@@ -12,7 +13,7 @@ use kinds::{DETAIL, PUBLISHERS_CLAIM, Row, WRITERS_CLAIM};
 
 // Before a record of that number, which begins at that byte; the number of the latest record that is no detail, and how many claims were met
 // since.
-#[derive(Drop)]
+#[derive(Clone, Copy)]
 pub struct Walk {
     pub at: usize,
     pub index: usize,
@@ -40,7 +41,7 @@ impl Walk {
 }
 
 // The number of its header, counted from 0 over all records; or no transaction has too many.
-#[derive(Drop)]
+#[derive(Clone, Copy)]
 pub enum Crowd {
     Nowhere,
     At(usize),

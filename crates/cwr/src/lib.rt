@@ -1,5 +1,6 @@
 // The library: the calls that are open to others. Each takes whatever it is lent, and its contract states the entire outcome, by one of the
 // promises in specs/Promises.antt.
+#![tactic(auto)]
 ghost use Rattle.std.specs.Prelude.{◌≡◌, true, ◌≤◌, length};
 ghost use Rattle.format.specs.Lent.{in_room};
 ghost use Rattle.format.specs.Structure.{most_bytes, most_records};
@@ -97,7 +98,7 @@ pub fn check_short(
 }
 
 // What is answered of the first work to look at; specs/First.antt gives each case its number.
-#[derive(Drop)]
+#[derive(Clone, Copy)]
 pub enum First {
     // As the check would be.
     Refused(Answer),

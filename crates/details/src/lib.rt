@@ -1,4 +1,5 @@
 // One detail of a transaction: judged by itself and by what stands before it, and counted for the header.
+#![tactic(auto)]
 ghost use Rattle.std.specs.Prelude.{List, [], ◌∷◌, ◌++◌, ◌^◌};
 ghost use Rattle.format.specs.Bytes.{Bytes};
 ghost use Rattle.rules.specs.Tables.{Tables};
@@ -17,7 +18,7 @@ use kinds::{PUBLISHER, Row, WRITER};
 use tally::Tally;
 
 // After one detail: its own findings, and what is known of the transaction with it. The chains' tallies are updated where they stand.
-#[derive(Drop)]
+#[derive(Clone, Copy)]
 pub struct Step {
     pub found: Found,
     pub tally: Tally,

@@ -1,5 +1,6 @@
 // The findings on one record: one function finds each, and one for each kind of record puts those that it can have into a set, with the
 // largest verdict among them. What serves several findings, or the transaction too, is read off the record once.
+#![tactic(auto)]
 ghost use Rattle.std.specs.Prelude.{◌≡◌, false, ◌||◌, [], ◌∷◌, ◌++◌, ◌+◌, ◌≤◌, length, replicate};
 ghost use Rattle.format.specs.Bytes.{same_bytes};
 ghost use Rattle.rules.specs.Values.{full_share, share_of, bad_share};
@@ -16,7 +17,7 @@ pub mod publisher;
 pub mod writer;
 
 // A record's own findings, bit n for finding n, and the largest verdict among them.
-#[derive(Drop)]
+#[derive(Clone, Copy)]
 pub struct Found {
     pub set: u64,
     pub level: u8,
@@ -43,7 +44,7 @@ fn is_code(code: &[u8], a: u8, b: u8) -> bool
 }
 
 // What the three share fields of a record count, and whether one of them is bad.
-#[derive(Drop)]
+#[derive(Clone, Copy)]
 pub struct Shares {
     pub counts: Rights,
     pub bad: bool,

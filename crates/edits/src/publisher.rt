@@ -18,7 +18,7 @@ use totals::Rights;
 use values::Share;
 
 // The sequence number of a publisher record, or of the last one before a record.
-#[derive(Drop)]
+#[derive(Clone, Copy)]
 pub enum Sequence {
     NoRecord,
     NotDigits,
@@ -26,7 +26,7 @@ pub enum Sequence {
 }
 
 // What is read off a publisher record.
-#[derive(Drop)]
+#[derive(Clone, Copy)]
 pub struct Publisher {
     // Whether it is an SPU; else it is an OPU.
     pub spu: bool,
@@ -182,7 +182,7 @@ fn read_sequence(record: &[u8]) -> Sequence
 }
 
 // As in Publisher.
-#[derive(Drop)]
+#[derive(Clone, Copy)]
 struct Type {
     listed: bool,
     e: bool,

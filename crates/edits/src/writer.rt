@@ -16,7 +16,7 @@ use totals::Rights;
 use values::Share;
 
 // What is read off a writer record.
-#[derive(Drop)]
+#[derive(Clone, Copy)]
 pub struct Writer {
     // Whether it is an SWR; else it is an OWR.
     pub swr: bool,
@@ -111,7 +111,7 @@ fn is_swr(record: &[u8]) -> bool
 }
 
 // As in Writer.
-#[derive(Drop)]
+#[derive(Clone, Copy)]
 struct Roles {
     listed: bool,
     creator: bool,

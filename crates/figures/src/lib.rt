@@ -1,5 +1,6 @@
 // What a catalogue sheet tells of one file (M-103), counted as its records and transactions come: by right what they miss of the full share,
 // how many records carry each finding, and how many have each verdict.
+#![tactic(auto)]
 ghost use Rattle.std.specs.Prelude.{◌≡◌, Bool, cond, List, [], ◌∷◌, ◌++◌, ℕ, ◌+◌, ◌-◌, ◌*◌, ◌≤◌, length};
 ghost use Rattle.format.specs.Bytes.{All};
 ghost use Rattle.format.specs.Doc.{Transaction};
@@ -17,7 +18,7 @@ use values::Share;
 
 // Of one right: how many miss it, the largest shortfall and the largest excess, and all shortfalls and all excesses added up. The two sums
 // are kept apart, since apart they need no sign.
-#[derive(Drop)]
+#[derive(Clone, Copy)]
 pub struct Misses {
     pub transactions: u64,
     pub shortfall: u64,
@@ -73,7 +74,7 @@ impl Misses {
 }
 
 // Of the three rights.
-#[derive(Drop)]
+#[derive(Clone, Copy)]
 pub struct Missing {
     pub pr: Misses,
     pub mr: Misses,
@@ -189,7 +190,7 @@ pub fn by_verdict(records: usize, levels: [u64; 4]) -> [u64; 5]
 
 // ---- a whole file
 
-#[derive(Drop)]
+#[derive(Clone, Copy)]
 pub struct Figures {
     pub missing: Missing,
     pub findings: [u64; 64],

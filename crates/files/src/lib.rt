@@ -1,5 +1,6 @@
 // A whole file that is right by 3 to 10: its groups one after the other, and in each its transactions. Each record's set and verdict is
 // written as it comes; at the end of a group its verdicts are raised where a header in it has finding 0.
+#![tactic(auto)]
 ghost use Rattle.std.specs.Prelude.{◌≡◌, true, [], ◌∷◌, ◌+◌, ◌*◌, ◌≤◌, ◌<◌, eqb, length, get_or};
 ghost use Rattle.format.specs.Table.{hdr, grh, grt, unknown};
 ghost use Rattle.format.specs.Cwr22.{cwr22};
@@ -19,7 +20,7 @@ use kinds::HEAD;
 use transactions::Passed;
 
 // Before a record of that number, which begins at that byte.
-#[derive(Drop)]
+#[derive(Clone, Copy)]
 pub struct Next {
     pub at: usize,
     pub index: usize,

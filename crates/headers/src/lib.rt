@@ -1,4 +1,5 @@
 // The findings on a transaction's header: 0 to 15, which hang on the whole transaction, joined with those on the header's own fields.
+#![tactic(auto)]
 ghost use Rattle.std.specs.Prelude.{◌≡◌, Bool, false, List, [], ◌∷◌, ◌++◌, ◌^◌, ◌≤◌, length, replicate};
 ghost use Rattle.format.specs.Bytes.{Bytes};
 ghost use Rattle.rules.specs.Tables.{Tables};
@@ -18,7 +19,7 @@ use tally::Tally;
 use tally::marks::Marks;
 
 // Findings 11 to 14, as the chains have them.
-#[derive(Drop)]
+#[derive(Clone, Copy)]
 pub struct Links {
     pub many: bool,
     pub shareless: bool,
@@ -27,7 +28,7 @@ pub struct Links {
 }
 
 // The header's set of findings and its largest verdict; whether it has a finding that rejects the transaction; whether it has finding 0.
-#[derive(Drop)]
+#[derive(Clone, Copy)]
 pub struct Head {
     pub set: u64,
     pub level: u8,

@@ -1,11 +1,12 @@
 // The record types in one fixed table, and the row of a record. specs/Rows.antt makes the same rows of the format's own table
 // and stages; `table` is proved equal to them.
+#![tactic(auto)]
 ghost use Rattle.std.specs.Prelude.{◌≡◌, true, [], ◌∷◌, ◌<◌, ◌≤◌, length, take};
 ghost use Rattle.format.specs.Bytes.{Bytes, same_bytes};
 ghost use Rattle.kinds.specs.Rows.{no_row, kinds, shape_of, type_of, first_record, row_for};
 
 // A record type. Flat: with an enum or a struct inside, the check of the table takes minutes.
-#[derive(Drop)]
+#[derive(Clone, Copy)]
 pub struct Row {
     // The type's three bytes.
     pub a: u8,
@@ -45,7 +46,7 @@ impl Row {
 }
 
 // Of a row what a walk goes by.
-#[derive(Drop)]
+#[derive(Clone, Copy)]
 pub struct Shape {
     pub class: u8,
     pub length: u16,

@@ -1,4 +1,6 @@
 // The lines of a file: how far text goes, where a CR LF pair stands, and how many lines there are from a place on.
+#![tactic(auto)]
+
 ghost use Rattle.std.specs.Prelude.{◌≡◌, ◌+◌, ◌≤◌, length, take, drop};
 ghost use Rattle.format.specs.Bytes.{every, is_text, begins_pair};
 ghost use Rattle.format.specs.Lines.{lines};
@@ -88,7 +90,7 @@ pub fn text_end(file: &[u8], at: usize) -> usize
 }
 
 // The number of all lines, or of those before the fault.
-#[derive(Drop)]
+#[derive(Clone, Copy)]
 pub enum Scan {
     Lines(usize),
     Fault(usize),

@@ -1,4 +1,5 @@
 // The order of a transaction's details, finding 8: where a walk stands in the sequence of stages.
+#![tactic(auto)]
 ghost use Rattle.std.specs.Prelude.{◌≡◌, List, [], ◌∷◌, ◌++◌, take};
 ghost use Rattle.format.specs.Bytes.{Bytes};
 ghost use Rattle.format.specs.Table.{detail};
@@ -11,7 +12,7 @@ ghost use Rattle.order.specs.Walk.{reached, standing, takes};
 use kinds::Row;
 
 // The stage and the rank in it that the last record took, and whether some record could take none.
-#[derive(Drop)]
+#[derive(Clone, Copy)]
 pub struct Order {
     pub stage: u8,
     pub rank: u8,

@@ -1,5 +1,6 @@
 // The claims of a transaction, read off a lent file one by one; and a quick test, by each party's largest share, that they are too small to
 // come to more than all anywhere.
+#![tactic(auto)]
 ghost use Rattle.std.specs.Prelude.{◌≡◌, true, cond, ◌||◌, List, [], ◌∷◌, ◌++◌, ℕ, ◌+◌, ◌^◌, ◌<◌, ◌≤◌, eqb, length, take, drop};
 ghost use Rattle.rules.specs.Values.{full_share, largest_tolerance};
 ghost use Rattle.rules.specs.Totals.{Right};
@@ -103,7 +104,7 @@ pub fn entry(record: &[u8], publishers: bool, place: usize, count: usize, party:
 // ---- each party's largest shares
 
 // By right: what the largest shares of the parties before add up to, and that of the party at hand, which has this number.
-#[derive(Drop)]
+#[derive(Clone, Copy)]
 pub struct Largest {
     pub party: u32,
     pub before: Rights,
@@ -181,7 +182,7 @@ impl Largest {
 
 // The next claim; where the record after it begins, and how many parties have begun by then. Where no claim is left, found is false and the
 // rest says nothing.
-#[derive(Drop)]
+#[derive(Clone, Copy)]
 pub struct Next {
     pub at: usize,
     pub party: u32,

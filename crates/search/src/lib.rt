@@ -1,5 +1,6 @@
 // The first transaction of a file with a TR or GR finding of its own (M-100), in a file that is right by 3 to 10. The walk is the check's,
 // but nothing is written and it stops at the first such finding, be it on a detail: no later record is judged.
+#![tactic(auto)]
 ghost use Rattle.std.specs.Prelude.{◌≡◌, ◌+◌, ◌≤◌, length};
 ghost use Rattle.format.specs.Table.{grh, grt, head, unknown};
 ghost use Rattle.format.specs.Cwr22.{cwr22};
@@ -24,7 +25,7 @@ use kinds::HEAD;
 use transactions::{Passed, Purpose};
 
 // In a transaction: a record of its own has such a finding, or none has, and the walk has passed it.
-#[derive(Drop)]
+#[derive(Clone, Copy)]
 pub enum InTransaction {
     Grave,
     Clean(Passed),
@@ -82,7 +83,7 @@ fn search_transaction(
 
 // In a group: the number of its first such transaction; or it has none, the walk has passed its transactions, and the next one of the file
 // has that number.
-#[derive(Drop)]
+#[derive(Clone, Copy)]
 pub enum InGroup {
     At(usize),
     Clean(Passed, usize),
@@ -154,7 +155,7 @@ fn search_group(
 }
 
 // In a file: its first such transaction, or that it has none.
-#[derive(Drop)]
+#[derive(Clone, Copy)]
 pub enum Sought {
     Nothing,
     At(usize),

@@ -1,5 +1,6 @@
 // The client's catalogue sheet: the figures of the files taken so far. A file has a sheet of its own, and a sheet grows by that of one file
 // more; specs/Told.antt says what a sheet in code stands for.
+#![tactic(auto)]
 ghost use Rattle.std.specs.Prelude.{◌≡◌, true, false, [], ◌∷◌, ◌^◌, ◌<◌, ◌≤◌, length, ◌+ℤ◌};
 ghost use Rattle.std.proofs.Math.IntN.{sub_ℕ};
 ghost use Rattle.format.specs.Table.{unknown};
@@ -17,7 +18,7 @@ use figures::{Figures, Misses};
 use values::Share;
 
 // Of a right: the transactions whose total is neither 0 nor the full share.
-#[derive(Drop)]
+#[derive(Clone, Copy)]
 pub struct Missed {
     pub transactions: u64,
     // The largest of each, and the sum of the signed differences: negative is short.
@@ -26,7 +27,7 @@ pub struct Missed {
     pub sum: i64,
 }
 
-#[derive(Drop)]
+#[derive(Clone, Copy)]
 pub struct Sheet {
     pub files: u64,
     pub refused: u64,
@@ -39,7 +40,7 @@ pub struct Sheet {
 }
 
 // What taking a file leaves: its answer, and the sheet after it.
-#[derive(Drop)]
+#[derive(Clone, Copy)]
 pub struct Taken {
     pub answer: Answer,
     pub sheet: Sheet,

@@ -1,5 +1,6 @@
 // Refusals 3 to 10 over a lent file. A right file is decided by one walk that jumps from record to record by the rows' lengths. It
 // stops at the first doubt, and only then plain scans look for the refusal and its place, from there on.
+#![tactic(auto)]
 ghost use Rattle.std.specs.Prelude.{◌≡◌, Bool, true, cond, not, ◌&&◌, ◌||◌, ◌+◌, ◌≤◌, eqb, length, take, drop};
 ghost use Rattle.format.specs.Bytes.{same_bytes};
 ghost use Rattle.format.specs.Table.{at, width};
@@ -20,7 +21,7 @@ use kinds::{DETAIL, GRH, GRT, HDR, HEAD, Row, TRL, UNKNOWN};
 use lines::Scan;
 
 // Where a walk stands: at a byte of the file, after a record of that class, with these counts.
-#[derive(Drop)]
+#[derive(Clone, Copy)]
 pub struct Stand {
     pub at: usize,
     pub class: u8,
@@ -28,7 +29,7 @@ pub struct Stand {
 }
 
 // The first faults by 7, 8 and 9 that were met: 0 for none, else the place and one.
-#[derive(Drop)]
+#[derive(Clone, Copy)]
 pub struct FirstFaults {
     pub seven: u64,
     pub eight: u64,

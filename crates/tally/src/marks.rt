@@ -10,7 +10,7 @@ ghost use Rattle.tally.specs.Marked.{Marked};
 use edits::writer::Writer;
 use kinds::{EWT, INSTRUMENT, Row, VER};
 
-#[derive(Drop)]
+#[derive(Clone, Copy)]
 pub struct Marks {
     // Whether there is a writer; one that makes a work, one that changes one, one that writes text.
     pub writer: bool,

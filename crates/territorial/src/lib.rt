@@ -1,6 +1,7 @@
 // The check with a territory table (M-105), as the library offers it. The check without one fills the buffers; then the file's claims are
 // walked over, and of each transaction in doubt listed and counted. It stands apart from the library's other calls because a list of structs
 // is lent to it, so that its proof is by hand.
+#![tactic(auto)]
 ghost use Rattle.std.specs.Prelude.{◌≡◌, ℕ, ◌<◌, ◌≤◌, length};
 ghost use Rattle.format.specs.Bytes.{Bytes};
 ghost use Rattle.format.specs.Table.{unknown};
@@ -21,7 +22,7 @@ use crowds::Crowd;
 
 // Where the check stands between two transactions in doubt: whether there is one, the byte of its first detail, how much of the list is to be
 // cleared at the end, and the walk over the file.
-#[derive(Drop)]
+#[derive(Clone, Copy)]
 pub struct Progress {
     pub doubtful: bool,
     pub first: usize,
@@ -31,13 +32,13 @@ pub struct Progress {
 }
 
 // The first territory that is over: the number of its transaction, counted from 0 over the whole file, and its position in the table.
-#[derive(Drop)]
+#[derive(Clone, Copy)]
 pub enum Over {
     Nowhere,
     At(usize, usize),
 }
 
-#[derive(Drop)]
+#[derive(Clone, Copy)]
 pub struct Claimed {
     pub answer: Answer,
     pub over: Over,

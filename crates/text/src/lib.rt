@@ -1,4 +1,6 @@
 // The bytes of a field: the part of a record that a field is, what it may hold, and numbers read from it and written into it.
+#![tactic(auto)]
+
 ghost use Rattle.std.specs.Prelude.{◌≡◌, [], ◌∷◌, ◌+◌, ◌-◌, ◌%◌, ◌^◌, ◌<◌, ◌≤◌, length, eqb};
 ghost use Rattle.format.specs.Bytes.{every, same_bytes, decimal, bytes_of};
 ghost use Rattle.text.specs.Words.{word_of};

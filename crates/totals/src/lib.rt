@@ -1,5 +1,6 @@
 // The totals of a transaction's shares, and findings 1 to 3 on them. Nothing wraps: a transaction may hold 92,000 share records at 99999,
 // whose total is past 32 bits.
+#![tactic(auto)]
 ghost use Rattle.std.specs.Prelude.{◌≡◌, true, List, [], ◌∷◌, ◌++◌, ℕ, ◌+◌, ◌^◌, ◌≤◌};
 ghost use Rattle.format.specs.Bytes.{Bytes};
 ghost use Rattle.rules.specs.Values.{largest_tolerance};
@@ -10,7 +11,7 @@ ghost use Rattle.totals.specs.Sums.{rights, plus, AtMost, Sums, Below};
 use values::Share;
 
 // Shares of the three rights, in hundredths of a percent: one record's, or a total.
-#[derive(Drop)]
+#[derive(Clone, Copy)]
 pub struct Rights {
     pub pr: u64,
     pub mr: u64,
@@ -18,7 +19,7 @@ pub struct Rights {
 }
 
 // The totals over SPU and OPU, and over SWR and OWR.
-#[derive(Drop)]
+#[derive(Clone, Copy)]
 pub struct Totals {
     pub publishers: Rights,
     pub writers: Rights,

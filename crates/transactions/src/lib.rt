@@ -1,5 +1,6 @@
 // One transaction of a file that is right by 3 to 10: its details are judged and counted one by one, then its header is judged by what
 // was counted. Each record's set and verdict is written as it comes.
+#![tactic(auto)]
 ghost use Rattle.std.specs.Prelude.{◌≡◌, Bool, true, false, ◌&&◌, List, [], ◌∷◌, ◌++◌, ℕ, ◌+◌, ◌^◌, ◌<◌, ◌≤◌, eqb, length, take, drop};
 ghost use Rattle.format.specs.Bytes.{Bytes, same_bytes};
 ghost use Rattle.format.specs.Table.{head};
@@ -30,7 +31,7 @@ use tally::Tally;
 
 // Where a walk over a transaction's details stands: at a byte of the file, before a record of that number; and what is known of the
 // details so far. The tallies of their chains are kept beside it.
-#[derive(Drop)]
+#[derive(Clone, Copy)]
 pub struct Walk {
     pub at: usize,
     pub index: usize,
@@ -58,7 +59,7 @@ impl Walk {
 }
 
 // One detail on: what was found of it, and where the walk stands after it.
-#[derive(Drop)]
+#[derive(Clone, Copy)]
 pub struct Turn {
     pub found: Found,
     pub walk: Walk,
@@ -66,7 +67,7 @@ pub struct Turn {
 
 // After the last detail, with the shares' totals in the walk's tally: what the chains have of findings 11 to 14, the class of the record
 // that follows, and whether a detail has a finding that rejects the transaction.
-#[derive(Drop)]
+#[derive(Clone, Copy)]
 pub struct Details {
     pub walk: Walk,
     pub links: Links,
@@ -142,7 +143,7 @@ fn judge_detail(
 
 // What a walk over details is for: their entries are written into the buffers of a check, they are counted for a sheet, or one that rejects
 // the transaction is searched for, and the walk ends there.
-#[derive(Drop)]
+#[derive(Clone, Copy)]
 pub enum Purpose {
     Write,
     Count,
@@ -300,7 +301,7 @@ pub fn judge_header(
 }
 
 // After a transaction: where the next record begins, its number and its class; whether the header has finding 0.
-#[derive(Drop)]
+#[derive(Clone, Copy)]
 pub struct Passed {
     pub at: usize,
     pub index: usize,

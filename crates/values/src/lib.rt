@@ -1,5 +1,6 @@
 // What a field may hold beyond digits: zeros, a date, a duration, an ISWC, a share. Where the width is fixed the bytes are looked at one
 // by one, with no loop: nearly every record has shares or dates.
+#![tactic(auto)]
 ghost use Rattle.std.specs.Prelude.{◌≡◌, ◌&&◌, [], ◌∷◌, ◌+◌, ◌-◌, ◌≤◌, leb, length};
 ghost use Rattle.format.specs.Fields.{field_of, are_digits, number_of};
 ghost use Rattle.rules.specs.Values.{are_zeros, leap_year, days_in, is_day, is_date, is_duration, iswc_sum, is_iswc};
@@ -123,7 +124,7 @@ pub fn iswc(field: &[u8]) -> bool
 // ---- a share, in hundredths of a percent
 
 // A share field as it is read: what it counts, 0 where it isn't five digits; and whether it isn't, or is over the most that it may be.
-#[derive(Drop)]
+#[derive(Clone, Copy)]
 pub struct Share {
     pub counts: u64,
     pub bad: bool,

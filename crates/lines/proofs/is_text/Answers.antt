@@ -3,12 +3,8 @@ use native.Mathlib.Omega.{arith}
 use mathlib.Core.Bool.{and-true}
 use borrow.Author.Tests.{le-leb}
 use Rattle.format.specs.Bytes.{is_text}
-use Rattle.lines.proofs.is_text.Statement.{statement}
-use Rattle.lines.proofs.is_text.Tie as tie
+use Rattle.lines.proofs.is_text.Goals as goal
 
-returns : tie.Need-returns
+pub returns : goal.returns
 unfolding is_text
 returns c = rw (le-leb c.args.b 255 (omega arith), and-true)
-
-pub is-text-spec : {M : Type 1} → statement M
-is-text-spec = tie.close (tie.spec returns)
