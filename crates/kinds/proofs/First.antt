@@ -11,25 +11,25 @@ use lib.ListN.{length, get_or, drop, drop_of_length-le}
 use lib.Seq.{drop-cons}
 use borrow.Author.Tests.{not-true}
 use Rattle.format.specs.Bytes.{Bytes, same_bytes}
-use Rattle.kinds.specs.Rows.{type_of, no_row, first_record}
+use Rattle.kinds.specs.Rows.{type_of, no_row, first_row}
 use Rattle.kinds.specs.declared.Row.{Row}
 use Rattle.format.proofs.Tests.{by_cases, both, same→eq}
 
 -- ---- one turn of a search at i, where the rows from i on decide
 
-module _ (l : List Row) (type : Bytes) (i : ℕ) (rest : first_record (drop i l) type ≡ first_record l type) where
+module _ (l : List Row) (type : Bytes) (i : ℕ) (rest : first_row (drop i l) type ≡ first_row l type) where
   module _ (inside : i < length l) (d : Row) where
-    pub hit : same_bytes (type_of (get_or l i d)) type ≡ true → get_or l i d ≡ first_record l type
+    pub hit : same_bytes (type_of (get_or l i d)) type ≡ true → get_or l i d ≡ first_row l type
     hit e = rw (drop-cons l i d, e) at rest
 
-    pub miss : same_bytes (type_of (get_or l i d)) type ≡ false → first_record (drop (i + 1) l) type ≡ first_record l type
+    pub miss : same_bytes (type_of (get_or l i d)) type ≡ false → first_row (drop (i + 1) l) type ≡ first_row l type
     miss e = rw add-one (rw (drop-cons l i d, e) at rest)
 
-  pub none : length l ≤ i → no_row ≡ first_record l type
+  pub none : length l ≤ i → no_row ≡ first_row l type
   none h = rw (drop_of_length-le l h) at rest
 
 -- a row's type has three bytes, so no row is of a shorter one
-pub short : (l : List Row) (type : Bytes) → length type < 3 → first_record l type ≡ no_row
+pub short : (l : List Row) (type : Bytes) → length type < 3 → first_row l type ≡ no_row
 short [] type h = refl
 short (r ∷ l) type h =
     by_cases (same_bytes (type_of r) type) (λ e. absurd (omega (arith, ap length (same→eq (type_of r) type e)))) (λ e. rw e (short l type h))
@@ -52,7 +52,7 @@ module _ (type : Bytes) (d : Row) where
   has-at (r ∷ l) (suc k) h e = rw (has-at l k (le_of_suc-le-suc h) e, or-true (same_bytes (type_of r) type))
 
   pub only : (l : List Row) → distinct l ≡ true → (k : ℕ) → k < length l → same_bytes (type_of (get_or l k d)) type ≡ true
-      → get_or l k d ≡ first_record l type
+      → get_or l k d ≡ first_row l type
   unfolding has distinct
   only [] q k h e = absurd (not-suc-le-zero h)
   only (r ∷ l) q zero h e = rw e

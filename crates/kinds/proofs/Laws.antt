@@ -14,7 +14,7 @@ use Rattle.format.specs.Table.{Class, hdr, grh, head, detail, grt, trl, unknown,
 use Rattle.format.specs.Cwr22.{rows22, cwr22}
 use Rattle.format.specs.Checks.{code, is, cls}
 use Rattle.format.specs.Stages.{stages, spots, begins}
-use Rattle.kinds.specs.Rows.{code_row, kinds, row_for, type_of, no_row, first_record, spots_of, sorts, sort_from, sort_of}
+use Rattle.kinds.specs.Rows.{code_row, kinds, row_for, type_of, no_row, first_row, spots_of, sorts, sort_from, sort_of}
 use Rattle.kinds.specs.declared.Row.{Row}
 use Rattle.format.proofs.Tests.{by_cases, both, same→eq}
 use Rattle.kinds.proofs.First.{has, distinct, only, short}
@@ -40,15 +40,15 @@ three (row u n c) = eqb (length u) 3
 type-kept : (u : Bytes) → length u ≡ 3 → (n : ℕ) (c : Class) → type_of (code_row (row u n c)) ≡ u
 type-kept u h n c = first_three u (omega arith) ∙ take_all 3 u (omega arith)
 
-first-is : (fs : List FormatRow) → every three fs ≡ true → (type : Bytes) → first_record (map code_row fs) type ≡ code_row (row_of fs type)
+first-is : (fs : List FormatRow) → every three fs ≡ true → (type : Bytes) → first_row (map code_row fs) type ≡ code_row (row_of fs type)
 unfolding three
 first-is [] q type = sym code-unknown
 first-is (row u n c ∷ fs) q type =
     let p = both (eqb (length u) 3) (every three fs) q in
-    ap (λ (v : Bytes). cond (same_bytes v type) (code_row (row u n c)) (first_record (map code_row fs) type)) (type-kept u (eqb-true (length u) 3 p.0) n c)
+    ap (λ (v : Bytes). cond (same_bytes v type) (code_row (row u n c)) (first_row (map code_row fs) type)) (type-kept u (eqb-true (length u) 3 p.0) n c)
     ∙ by_cases (same_bytes u type) (λ e. rw e) (λ e. rw e (first-is fs p.1 type))
 
-first-row : (type : Bytes) → first_record kinds type ≡ row_for type
+first-row : (type : Bytes) → first_row kinds type ≡ row_for type
 unfolding kinds row_for rows22 three
 first-row type = first-is rows22 refl type
 
@@ -59,8 +59,8 @@ distinct-kinds = refl
 -- ---- the code's table, searched or hinted at
 
 module _ (l : List Row) (table : l ≡ kinds) (type : Bytes) where
-  pub searched : first_record l type ≡ row_for type
-  searched = ap (λ (k : List Row). first_record k type) table ∙ first-row type
+  pub searched : first_row l type ≡ row_for type
+  searched = ap (λ (k : List Row). first_row k type) table ∙ first-row type
 
   pub hinted : (k : ℕ) → k < length l → (d : Row) → same_bytes (type_of (get_or l k d)) type ≡ true → get_or l k d ≡ row_for type
   hinted k inside d e = only type d l (ap distinct table ∙ distinct-kinds) k inside e ∙ searched

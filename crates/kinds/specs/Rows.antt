@@ -71,9 +71,9 @@ type_of r = r.a ∷ r.b ∷ r.c ∷ []
 abbrev pub no_row : Row
 no_row = record { a = 0; b = 0; c = 0; class = code unknown; length = 0; first = 0; second = 0; third = 0; rank = 0; alone = false; sort = 0 }
 
-abbrev pub first_record : List Row → Bytes → Row
-first_record [] type = no_row
-first_record (r ∷ rs) type = cond (same_bytes (type_of r) type) r (first_record rs type)
+abbrev pub first_row : List Row → Bytes → Row
+first_row [] type = no_row
+first_row (r ∷ rs) type = cond (same_bytes (type_of r) type) r (first_row rs type)
 
 -- ---- the spots that a row's columns say: a stage 0 is none
 

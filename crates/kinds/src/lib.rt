@@ -3,7 +3,7 @@
 #![tactic(auto)]
 ghost use Rattle.std.specs.Prelude.{◌≡◌, true, [], ◌∷◌, ◌<◌, ◌≤◌, length, take};
 ghost use Rattle.format.specs.Bytes.{Bytes, same_bytes};
-ghost use Rattle.kinds.specs.Rows.{no_row, kinds, shape_of, type_of, first_record, row_for};
+ghost use Rattle.kinds.specs.Rows.{no_row, kinds, shape_of, type_of, first_row, row_for};
 
 // A record type. Flat: with an enum or a struct inside, the check of the table takes minutes.
 #[derive(Clone, Copy)]
@@ -200,7 +200,7 @@ fn no_row() -> Row
 
 // The first of the rows that is of the type.
 fn search(rows: [Row; 38], a: u8, b: u8, c: u8) -> Row
-    ensures { result ≡ first_record rows (a ∷ b ∷ c ∷ []) }
+    ensures { result ≡ first_row rows (a ∷ b ∷ c ∷ []) }
 {
     let mut i = 0;
     while i < 38 {
