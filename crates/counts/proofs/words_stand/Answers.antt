@@ -5,17 +5,11 @@ use Rattle.format.proofs.Decimal.{length-bytes}
 use Rattle.counts.specs.Carried.{words}
 use Rattle.counts.proofs.Laws.{compared}
 use borrow.Author.Rules.{rules}
-use Rattle.counts.proofs.words_stand.Statement.{statement}
-use Rattle.counts.proofs.words_stand.Tie as tie
+use Rattle.counts.proofs.words_stand.Goals as goal
 
-returns : tie.Need-returns
+pub returns : goal.returns
 unfolding words
 returns c =
-    let start = c.before.before.before in
-    let g = start.args in
+    let g = c.args in
     compared g.record.now g.start 8 (bytes_of 8 g.m) (length-bytes 8 g.m) (bytes_of 8 g.r) 8 (search rules) (search rules)
-    _ _ c.before.word-Stands.ensures c.word-stands2.ensures
-
-pub words-stand-spec : {M : Type 1} → statement M
-words-stand-spec =
-    tie.close (tie.spec (λ c κs. search rules) (λ c. search rules) (λ c κs. search rules) returns)
+    _ _ c.word_stands.ensures c.word_stands-2.ensures
