@@ -1,0 +1,33 @@
+-- `edits::header::judge` meets its contract: each finding by its function, and the others do not hold of this kind of record.
+-- Assumes nothing.
+use mathlib.Core.List.{[], ◌∷◌}
+use Rattle.edits.proofs.Own.{own-header}
+use Rattle.edits.proofs.header.judge.Goals as goal
+
+pub returns : goal.returns
+returns c tables before i =
+    own-header tables before c.args.record.now c.requires.1
+    (
+    c.found_16.result
+    ∷ c.found_17.result
+    ∷ c.found_18.result
+    ∷ c.found_19.result
+    ∷ c.found_20.result
+    ∷ c.found_21.result
+    ∷ c.found_22.result
+    ∷ c.found_23.result
+    ∷ []
+    )
+    _
+    (rw (
+      ← c.found_16.ensures,
+      ← c.found_17.ensures tables i,
+      ← c.found_18.ensures,
+      ← c.found_19.ensures,
+      ← c.found_20.ensures,
+      ← c.found_21.ensures tables i,
+      ← c.found_22.ensures,
+      ← c.found_23.ensures,
+    ))
+    c.gather.ensures.set_value
+    c.gather.ensures.level_value

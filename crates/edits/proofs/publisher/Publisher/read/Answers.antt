@@ -1,0 +1,27 @@
+-- `edits::publisher::Publisher::read` meets its contract. Assumes nothing.
+use mathlib.Core.Path.{◌∙◌}
+use Rattle.rules.specs.Publisher.{is30}
+use Rattle.values.proofs.Laws.{spelled}
+use Rattle.edits.proofs.publisher.Publisher.read.Goals as goal
+
+pub returns : goal.returns
+unfolding is30
+returns c =
+    let shares = c.read_shares-shares.ensures in
+    let pr = c.share_pr.ensures.0 in
+    let mr = c.share_mr.ensures.0 in
+    let sr = c.share_sr.ensures.0 in
+    let mark = c.indicator-indicator in
+    let type = c.read_type-t.ensures in
+    let spu = c.is_spu-spu.ensures in record { publisher_reads = record {
+        kind = c.requires;
+        spu = spu.value;
+        opu = spu.result_value;
+        sequence = c.read_sequence-sequence.ensures.value;
+        indicator = spelled 1 mark.result.now mark.ensures.1 ∙ mark.ensures.0;
+        listed = type.listed_value;
+        e = (type.e_value spu.result_value).0;
+        aq = (type.e_value spu.result_value).1;
+        shares = shares.counts_value ∙ rw (pr, mr, sr);
+        bad = shares.bad_value ∙ rw (c.requires.1, pr, mr, sr);
+      }; bounded = (shares.at_most, c.read_sequence-sequence.ensures.below100) }
