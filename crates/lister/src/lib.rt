@@ -29,7 +29,7 @@ fn put_word(word: &[u8], end: u8, out: &mut [u8], at: usize) -> usize
     ensures value { result ≡ at + length word.now + 1 }
 {
     let e = at + word.len();
-    bytes::copy(word, &mut out[at..e]);
+    out[at..e].copy_from_slice(word);
     out[e] = end;
     e + 1
 }

@@ -23,7 +23,7 @@ fn number_line(line: &[u8], out: &mut [u8], class: u8, counts: Counts)
         ++ expected (counts_in counts) (class_at class)
         ++ drop (at (class_at class) + width (class_at class)) line.now }
 {
-    bytes::copy(line, out);
+    out.copy_from_slice(line);
     counts.put(class, out);
 }
 
