@@ -28,15 +28,11 @@ use Rattle.structure.proofs.Turns.{bounded-start, bounded-on}
 use Rattle.structure.proofs.Here.{record_at, fits, here-three, long, records-here, fine-after, all_after, line-here, row-size, row-numbers, row_is}
 use Rattle.numbering.specs.Fill.{Sized}
 
--- ---- a line that was copied whole
+-- ---- a line that was copied whole, and its numbers put over it
 
-copied : (l o x : Bytes) → length o ≡ length l → x ≡ take (length l) l ++ drop (length l) o → x ≡ l
-copied l o x h e = e ∙ rw (take_all (length l) l (omega arith), drop_of_length-le o {i = length l} (omega arith)) (append-nil l)
-
--- and its numbers put over it
-pub line-over : (l o x y : Bytes) (c : Class) (n : Bytes) → length o ≡ length l → x ≡ take (length l) l ++ drop (length l) o
+pub line-over : (l x y : Bytes) (c : Class) (n : Bytes) → x ≡ l
     → y ≡ take (at c) x ++ n ++ drop (at c + width c) x → y ≡ take (at c) l ++ n ++ drop (at c + width c) l
-line-over l o x y c n h e w = rw (copied l o x h e) at w
+line-over l x y c n e w = rw e at w
 
 -- ---- a buffer with ys in the place of what stood from i to e
 

@@ -1,0 +1,155 @@
+-- `numbering::fill` meets its contract: the buffer's front and the numbered rest are the numbered file.
+use Prim.Native.Nat.{ℕ, ◌+◌, ◌-◌, ◌≤◌}
+use native.Mathlib.Omega.{arith}
+use mathlib.Core.Path.{◌≡◌, sym, ap, ◌∙◌}
+use lib.ListN.{length, take, drop, length-drop}
+use borrow.Rule.Slice.PartMut.{mid_len}
+use Rattle.format.specs.Bytes.{Bytes}
+use Rattle.kinds.specs.Rows.{row_for, shape_of}
+use Rattle.kinds.proofs.Laws.{hinted}
+use Rattle.structure.proofs.Rows.{in_table}
+use Rattle.structure.proofs.Cursor.{to_end}
+use Rattle.numbering.proofs.Laws.{filling-start, filling-end, filling-on, three-bytes, ends, room}
+use Rattle.numbering.proofs.fill.Goals as goal
+
+pub loop-s-init : goal.loop-s-init
+loop-s-init c =
+    let z = c.zero-none in
+    filling-start c.args.file.now c.args.out.now c.requires.0 z.result z.ensures.result_value z.ensures.can_grow.0.0 z.ensures.can_grow.1
+
+pub bounds-file-at : goal.bounds-file-at
+bounds-file-at c = omega (arith, three-bytes c.loop-s.invariant c.loop-s-test.true)
+
+pub overflow_add-at : goal.overflow_add-at
+overflow_add-at c = omega (arith, three-bytes c.loop-s.invariant c.loop-s-test.true)
+
+pub bounds-file-at-in-loop-s : goal.bounds-file-at-in-loop-s
+bounds-file-at-in-loop-s c = omega (arith, three-bytes c.loop-s.invariant c.loop-s-test.true)
+
+pub overflow_add-at-in-loop-s : goal.overflow_add-at-in-loop-s
+overflow_add-at-in-loop-s c = omega (arith, three-bytes c.loop-s.invariant c.loop-s-test.true)
+
+pub bounds-file-at-in-loop-s-2 : goal.bounds-file-at-in-loop-s-2
+bounds-file-at-in-loop-s-2 c =
+    omega (arith, three-bytes c.loop-s.invariant c.loop-s-test.true)
+
+pub confirmed-shape-requires : goal.confirmed-shape-requires
+confirmed-shape-requires c =
+    let rows = c.table-rows.result in
+    let file = c.args.file.now in
+    let i = c.loop-s.s.at in
+    let three = three-bytes c.loop-s.invariant c.loop-s-test.true in record { in_bounds = rw (to_end file i, length-drop i file) (omega (arith, three)); hinted_value = λ t e. hinted rows c.table-rows.ensures t c.hint-k.result
+          (in_table rows c.table-rows.ensures c.hint-k.result c.hint-k.ensures) _ e }
+
+pub overflow_add-end : goal.overflow_add-end
+overflow_add-end c =
+    let its : c.confirmed-shape.result ≡ shape_of (row_for (take 3 (drop c.loop-s.s.at (c).args.file.now))) =
+        c.confirmed-shape.ensures ∙ ap (λ (r : Bytes). shape_of (row_for (take 3 r))) (to_end c.args.file.now c.loop-s.s.at) in
+    let end : c.loop-s.s.at + c.size.result + 2 ≤ length c.args.file.now =
+        omega (arith, c.size.ensures, ends c.loop-s.invariant c.loop-s-test.true its) in
+    omega (arith, end)
+
+pub overflow_add-end-in-loop-s : goal.overflow_add-end-in-loop-s
+overflow_add-end-in-loop-s c =
+    let its : c.confirmed-shape.result ≡ shape_of (row_for (take 3 (drop c.loop-s.s.at (c).args.file.now))) =
+        c.confirmed-shape.ensures ∙ ap (λ (r : Bytes). shape_of (row_for (take 3 r))) (to_end c.args.file.now c.loop-s.s.at) in
+    let end : c.loop-s.s.at + c.size.result + 2 ≤ length c.args.file.now =
+        omega (arith, c.size.ensures, ends c.loop-s.invariant c.loop-s-test.true its) in
+    omega (arith, end)
+
+pub slice_bounds-number_line-count : goal.slice_bounds-number_line-count
+slice_bounds-number_line-count c =
+    let its : c.confirmed-shape.result ≡ shape_of (row_for (take 3 (drop c.loop-s.s.at (c).args.file.now))) =
+        c.confirmed-shape.ensures ∙ ap (λ (r : Bytes). shape_of (row_for (take 3 r))) (to_end c.args.file.now c.loop-s.s.at) in
+    let end : c.loop-s.s.at + c.size.result + 2 ≤ length c.args.file.now =
+        omega (arith, c.size.ensures, ends c.loop-s.invariant c.loop-s-test.true its) in
+    omega (arith, end)
+
+pub slice_bounds-number_line-start : goal.slice_bounds-number_line-start
+slice_bounds-number_line-start c =
+    let its : c.confirmed-shape.result ≡ shape_of (row_for (take 3 (drop c.loop-s.s.at (c).args.file.now))) =
+        c.confirmed-shape.ensures ∙ ap (λ (r : Bytes). shape_of (row_for (take 3 r))) (to_end c.args.file.now c.loop-s.s.at) in
+    let end : c.loop-s.s.at + c.size.result + 2 ≤ length c.args.file.now =
+        omega (arith, c.size.ensures, ends c.loop-s.invariant c.loop-s-test.true its) in
+    omega (arith, end)
+
+pub slice_bounds-number_line-end : goal.slice_bounds-number_line-end
+slice_bounds-number_line-end c =
+    let its : c.confirmed-shape.result ≡ shape_of (row_for (take 3 (drop c.loop-s.s.at (c).args.file.now))) =
+        c.confirmed-shape.ensures ∙ ap (λ (r : Bytes). shape_of (row_for (take 3 r))) (to_end c.args.file.now c.loop-s.s.at) in
+    let end : c.loop-s.s.at + c.size.result + 2 ≤ length c.args.file.now =
+        omega (arith, c.size.ensures, ends c.loop-s.invariant c.loop-s-test.true its) in
+    omega (arith, end)
+
+pub slice_bounds-number_line-count-in-loop-s : goal.slice_bounds-number_line-count-in-loop-s
+slice_bounds-number_line-count-in-loop-s c =
+    let its : c.confirmed-shape.result ≡ shape_of (row_for (take 3 (drop c.loop-s.s.at (c).args.file.now))) =
+        c.confirmed-shape.ensures ∙ ap (λ (r : Bytes). shape_of (row_for (take 3 r))) (to_end c.args.file.now c.loop-s.s.at) in
+    let end : c.loop-s.s.at + c.size.result + 2 ≤ length c.args.file.now =
+        omega (arith, c.size.ensures, ends c.loop-s.invariant c.loop-s-test.true its) in
+    omega (arith, end)
+
+pub slice_bounds-number_line-start-in-loop-s : goal.slice_bounds-number_line-start-in-loop-s
+slice_bounds-number_line-start-in-loop-s c =
+    let its : c.confirmed-shape.result ≡ shape_of (row_for (take 3 (drop c.loop-s.s.at (c).args.file.now))) =
+        c.confirmed-shape.ensures ∙ ap (λ (r : Bytes). shape_of (row_for (take 3 r))) (to_end c.args.file.now c.loop-s.s.at) in
+    let end : c.loop-s.s.at + c.size.result + 2 ≤ length c.args.file.now =
+        omega (arith, c.size.ensures, ends c.loop-s.invariant c.loop-s-test.true its) in
+    omega (arith, end)
+
+pub slice_bounds-number_line-end-in-loop-s : goal.slice_bounds-number_line-end-in-loop-s
+slice_bounds-number_line-end-in-loop-s c =
+    let its : c.confirmed-shape.result ≡ shape_of (row_for (take 3 (drop c.loop-s.s.at (c).args.file.now))) =
+        c.confirmed-shape.ensures ∙ ap (λ (r : Bytes). shape_of (row_for (take 3 r))) (to_end c.args.file.now c.loop-s.s.at) in
+    let end : c.loop-s.s.at + c.size.result + 2 ≤ length c.args.file.now =
+        omega (arith, c.size.ensures, ends c.loop-s.invariant c.loop-s-test.true its) in
+    omega (arith, end, c.requires.1, c.loop-s.invariant.same)
+
+pub number_line-requires : goal.number_line-requires
+number_line-requires c =
+    let its : c.confirmed-shape.result ≡ shape_of (row_for (take 3 (drop c.loop-s.s.at (c).args.file.now))) =
+        c.confirmed-shape.ensures ∙ ap (λ (r : Bytes). shape_of (row_for (take 3 r))) (to_end c.args.file.now c.loop-s.s.at) in
+    let end : c.loop-s.s.at + c.size.result + 2 ≤ length c.args.file.now =
+        omega (arith, c.size.ensures, ends c.loop-s.invariant c.loop-s-test.true its) in
+    let i = c.loop-s.s.at in
+    let F = c.loop-s.invariant in
+    let b = F.bounded in
+    let e = i + c.size.result + 2 in
+    let line = mid_len i e c.args.file.now end in
+    let part = mid_len i e c.loop-s.out (omega (arith, end, c.requires.1, F.same)) in
+    let fit = room F c.loop-s-test.true its in
+    (part ∙ sym line, (b.kept, omega (arith, b.few, b.inside, c.requires.0.short)), omega (arith, line, fit, c.size.ensures))
+
+pub after_record-s-requires : goal.after_record-s-requires
+after_record-s-requires c =
+    let b = c.loop-s.invariant.bounded in
+    (omega (arith, b.inside, c.requires.0.short), b.kept, b.few)
+
+pub loop-s-smaller : goal.loop-s-smaller
+loop-s-smaller c =
+    let its : c.confirmed-shape.result ≡ shape_of (row_for (take 3 (drop c.loop-s.s.at (c).args.file.now))) =
+        c.confirmed-shape.ensures ∙ ap (λ (r : Bytes). shape_of (row_for (take 3 r))) (to_end c.args.file.now c.loop-s.s.at) in
+    let end : c.loop-s.s.at + c.size.result + 2 ≤ length c.args.file.now =
+        omega (arith, c.size.ensures, ends c.loop-s.invariant c.loop-s-test.true its) in
+    omega (arith, end, c.after_record-s.ensures.at, c.size.ensures)
+
+pub loop-s-preserved : goal.loop-s-preserved
+loop-s-preserved c =
+    let its : c.confirmed-shape.result ≡ shape_of (row_for (take 3 (drop c.loop-s.s.at (c).args.file.now))) =
+        c.confirmed-shape.ensures ∙ ap (λ (r : Bytes). shape_of (row_for (take 3 r))) (to_end c.args.file.now c.loop-s.s.at) in
+    let end : c.loop-s.s.at + c.size.result + 2 ≤ length c.args.file.now =
+        omega (arith, c.size.ensures, ends c.loop-s.invariant c.loop-s-test.true its) in
+    let i = c.loop-s.s.at in
+    let F = c.loop-s.invariant in
+    let e = i + c.size.result + 2 in
+    let part = mid_len i e c.loop-s.out (omega (arith, end, c.requires.1, F.same)) in
+    let here = c.loop-s-test.true in
+    filling-on F here its e (ap (λ (n : ℕ). i + n + 2) c.size.ensures) c.number_line.new.out
+    c.number_line.ensures (omega (arith, c.requires.1, F.same)) (c.number_line.auto.out ∙ part) _
+    c.after_record-s.ensures
+
+pub shape_of-out : goal.shape_of-out
+shape_of-out c = c.loop-s.invariant.same
+
+pub returns : goal.returns
+returns c = filling-end c.loop-s.invariant c.loop-s-test.false
