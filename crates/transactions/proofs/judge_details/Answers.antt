@@ -1,0 +1,134 @@
+-- `transactions::judge_details` meets its contract: each turn judges one detail more, and keeps it as the purpose is.
+-- Assumes nothing.
+use Prim.Native.Nat.{◌≤◌}
+use native.Mathlib.Omega.{arith}
+use mathlib.Core.Path.{◌≡◌, refl}
+use mathlib.Core.Bool.{◌&&◌}
+use lib.ListN.{length}
+use Rattle.format.specs.Structure.{most_records}
+use Rattle.format.proofs.Tests.{by_cases}
+use Rattle.rules.specs.Tables.{Tables}
+use Rattle.tables.specs.Index.{Indexed}
+use Rattle.kinds.proofs.Laws.{hinted}
+use Rattle.structure.proofs.Rows.{in_table}
+use Rattle.chains.proofs.Laws.{begins as none_yet}
+use Rattle.transactions.specs.Walk.{rest_at, Prepared, Turned}
+use Rattle.transactions.specs.Purposes.{is_search, DoneDetails}
+use Rattle.transactions.proofs.Entries.{entry-room}
+use Rattle.transactions.proofs.Laws.{own-worst, none_left, is-detail}
+use Rattle.transactions.proofs.Purposes.{done_none, done_on, done-early, same-lengths, writes, tells}
+use Rattle.transactions.proofs.Gone.{begins, ds, r, position, here, three, known, tallied, done, numbered, among-all, below, small-chains}
+use Rattle.transactions.proofs.Gone.{split-left, one_more, fewer-left, past, all_done}
+use Rattle.transactions.proofs.judge_details.Goals as goal
+
+-- ---- the start, and the row of the record that stands here
+pub loop-rejects-init : goal.loop-rejects-init
+loop-rejects-init c =
+    begins (record { here = c.requires.file_len_bound.1; left = refl }) c.start-w.ensures (rw c.start-w.ensures.met none_yet)
+    (λ tables e. rw c.start-w.ensures.index (done_none c.args.purpose tables c.requires.file_len_bound.3 (omega arith)))
+
+pub hint_at-k-requires : goal.hint_at-k-requires
+hint_at-k-requires c = three c.loop-rejects.invariant
+
+pub row_at-row-requires : goal.row_at-row-requires
+row_at-row-requires c =
+    let hint = c.hint_at-k in
+    let table = c.table-rows in
+    let listed = in_table table.result table.ensures hint.result hint.ensures in
+    (three c.loop-rejects.invariant, λ type e. hinted table.result table.ensures type hint.result listed _ e)
+
+pub shape_of-verdicts-then-row-searched : goal.shape_of-verdicts-then-row-searched
+shape_of-verdicts-then-row-searched c =
+    let some : Prepared c.args.slots.now =
+        c.requires.prepared in
+    let done-so-far : DoneDetails c.args.purpose (some).0 c.args.first c.loop-rejects.w.index (ds c.loop-rejects.invariant) c.loop-rejects.rejects c.args.verdicts.now c.args.findings.now c.args.carriers.now c.args.levels.now c.loop-rejects.verdicts c.loop-rejects.findings c.loop-rejects.carriers c.loop-rejects.levels =
+        done c.loop-rejects.invariant (some).0 (some).1 in
+    let lengths : (length c.loop-rejects.verdicts ≡ length c.args.verdicts.now) × (length c.loop-rejects.findings ≡ length c.args.findings.now) × (length c.loop-rejects.carriers ≡ length c.args.carriers.now) × (length c.loop-rejects.levels ≡ length c.args.levels.now) =
+        same-lengths done-so-far _ c.requires.file_len_bound.3 in
+    (lengths).0
+
+pub shape_of-findings-then-row-searched : goal.shape_of-findings-then-row-searched
+shape_of-findings-then-row-searched c =
+    let some : Prepared c.args.slots.now =
+        c.requires.prepared in
+    let done-so-far : DoneDetails c.args.purpose (some).0 c.args.first c.loop-rejects.w.index (ds c.loop-rejects.invariant) c.loop-rejects.rejects c.args.verdicts.now c.args.findings.now c.args.carriers.now c.args.levels.now c.loop-rejects.verdicts c.loop-rejects.findings c.loop-rejects.carriers c.loop-rejects.levels =
+        done c.loop-rejects.invariant (some).0 (some).1 in
+    let lengths : (length c.loop-rejects.verdicts ≡ length c.args.verdicts.now) × (length c.loop-rejects.findings ≡ length c.args.findings.now) × (length c.loop-rejects.carriers ≡ length c.args.carriers.now) × (length c.loop-rejects.levels ≡ length c.args.levels.now) =
+        same-lengths done-so-far _ c.requires.file_len_bound.3 in
+    (lengths).1
+
+pub shape_of-carriers-then-row-searched : goal.shape_of-carriers-then-row-searched
+shape_of-carriers-then-row-searched c =
+    let some : Prepared c.args.slots.now =
+        c.requires.prepared in
+    let done-so-far : DoneDetails c.args.purpose (some).0 c.args.first c.loop-rejects.w.index (ds c.loop-rejects.invariant) c.loop-rejects.rejects c.args.verdicts.now c.args.findings.now c.args.carriers.now c.args.levels.now c.loop-rejects.verdicts c.loop-rejects.findings c.loop-rejects.carriers c.loop-rejects.levels =
+        done c.loop-rejects.invariant (some).0 (some).1 in
+    let lengths : (length c.loop-rejects.verdicts ≡ length c.args.verdicts.now) × (length c.loop-rejects.findings ≡ length c.args.findings.now) × (length c.loop-rejects.carriers ≡ length c.args.carriers.now) × (length c.loop-rejects.levels ≡ length c.args.levels.now) =
+        same-lengths done-so-far _ c.requires.file_len_bound.3 in
+    (lengths).2
+
+pub shape_of-levels-then-row-searched : goal.shape_of-levels-then-row-searched
+shape_of-levels-then-row-searched c =
+    let some : Prepared c.args.slots.now =
+        c.requires.prepared in
+    let done-so-far : DoneDetails c.args.purpose (some).0 c.args.first c.loop-rejects.w.index (ds c.loop-rejects.invariant) c.loop-rejects.rejects c.args.verdicts.now c.args.findings.now c.args.carriers.now c.args.levels.now c.loop-rejects.verdicts c.loop-rejects.findings c.loop-rejects.carriers c.loop-rejects.levels =
+        done c.loop-rejects.invariant (some).0 (some).1 in
+    let lengths : (length c.loop-rejects.verdicts ≡ length c.args.verdicts.now) × (length c.loop-rejects.findings ≡ length c.args.findings.now) × (length c.loop-rejects.carriers ≡ length c.args.carriers.now) × (length c.loop-rejects.levels ≡ length c.args.levels.now) =
+        same-lengths done-so-far _ c.requires.file_len_bound.3 in
+    (lengths).3
+
+pub returns-then-row-searched : goal.returns-then-row-searched
+returns-then-row-searched c =
+    let inv = c.loop-rejects.invariant in
+    let searched = c.is_search-searched.ensures in
+    let ended = rw searched at c.if-row-searched.true in
+    let its = c.row_at-row.ensures in record { past_details = λ e. past inv its (none_left _ _ ended e) c.links_of-links.result _ (c.links_of-links.ensures (ds inv) _ _ _ (tallied inv)); done_details = by_cases (is_search c.args.purpose && c.loop-rejects.rejects)
+          (λ e tables indexed. rw (split-left inv) (done-early (done inv tables indexed) e _))
+          (λ e. all_done inv its (none_left _ _ ended e)) }
+
+-- ---- a detail
+pub judge_detail-s-requires : goal.judge_detail-s-requires
+judge_detail-s-requires c =
+    let inv = c.loop-rejects.invariant in
+    let few : length (rest_at c.args.file.now c.args.start) ≤ most_records = omega (arith, c.requires.file_len_bound.2) in record { file_len_bound = (c.requires.file_len_bound.0, here inv, c.row_at-row.ensures, is-detail _ _ c.if-row-searched.false, numbered inv c.requires.file_len_bound.2); below = (below inv few, small-chains inv few) }
+
+pub write-requires : goal.write-requires
+write-requires c =
+    let some : Prepared c.args.slots.now =
+        c.requires.prepared in
+    let done-so-far : DoneDetails c.args.purpose (some).0 c.args.first c.loop-rejects.w.index (ds c.loop-rejects.invariant) c.loop-rejects.rejects c.args.verdicts.now c.args.findings.now c.args.carriers.now c.args.levels.now c.loop-rejects.verdicts c.loop-rejects.findings c.loop-rejects.carriers c.loop-rejects.levels =
+        done c.loop-rejects.invariant (some).0 (some).1 in
+    writes done-so-far _ c.requires.file_len_bound.3 (entry-room (position c.loop-rejects.invariant) refl)
+
+pub tell-rejects-requires : goal.tell-rejects-requires
+tell-rejects-requires c =
+    let some : Prepared c.args.slots.now =
+        c.requires.prepared in
+    let done-so-far : DoneDetails c.args.purpose (some).0 c.args.first c.loop-rejects.w.index (ds c.loop-rejects.invariant) c.loop-rejects.rejects c.args.verdicts.now c.args.findings.now c.args.carriers.now c.args.levels.now c.loop-rejects.verdicts c.loop-rejects.findings c.loop-rejects.carriers c.loop-rejects.levels =
+        done c.loop-rejects.invariant (some).0 (some).1 in
+    let turned : (tables : Tables) → Indexed tables c.args.slots.now → Turned tables (ds c.loop-rejects.invariant) (r c.loop-rejects.invariant) c.judge_detail-s.result =
+        λ tables e. let inv = c.loop-rejects.invariant in (c.judge_detail-s.ensures.turned tables (ds inv) e (known inv) (tallied inv)).0 in
+    let inv = c.loop-rejects.invariant in
+    let level = (turned (some).0 (some).1).judged.level in
+    tells done-so-far _ c.requires.file_len_bound.3 (omega (arith, among-all inv, c.requires.file_len_bound.2))
+    (rw level (omega (arith, own-worst (some).0 (ds inv) (r inv))))
+
+pub loop-rejects-smaller : goal.loop-rejects-smaller
+loop-rejects-smaller c =
+    let (at, index) = c.judge_detail-s.ensures.at_value in
+    fewer-left c.loop-rejects.invariant c.row_at-row.ensures (is-detail _ _ c.if-row-searched.false)
+    c.judge_detail-s.result.walk at index
+
+pub loop-rejects-preserved : goal.loop-rejects-preserved
+loop-rejects-preserved c =
+    let some : Prepared c.args.slots.now =
+        c.requires.prepared in
+    let turned : (tables : Tables) → Indexed tables c.args.slots.now → Turned tables (ds c.loop-rejects.invariant) (r c.loop-rejects.invariant) c.judge_detail-s.result =
+        λ tables e. let inv = c.loop-rejects.invariant in (c.judge_detail-s.ensures.turned tables (ds inv) e (known inv) (tallied inv)).0 in
+    let inv = c.loop-rejects.invariant in
+    let (at, index) = c.judge_detail-s.ensures.at_value in
+    one_more inv c.row_at-row.ensures (is-detail _ _ c.if-row-searched.false)
+    c.judge_detail-s.result.walk at index
+    (turned (some).0 (some).1).known
+    (c.judge_detail-s.ensures.turned (some).0 (ds inv) (some).1 (known inv) (tallied inv)).1
+    (λ tables e. done_on (done inv tables e) index (turned tables e).judged c.write.ensures c.tell-rejects.ensures.value c.tell-rejects.ensures.told)
