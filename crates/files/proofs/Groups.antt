@@ -84,7 +84,8 @@ pub filled-group : (tables : Tables) (t : ℕ) (rs : List Bytes) {named : Bytes}
     → FilledGroup tables t i (p.index + 1) (group_of rs) v₀ g₀ (put_mid i (p.index + 1 - i) v₃ ys) g₃
 unfolding group_verdicts_by group_findings_by is_stray
 filled-group tables t rs {named} {i} p {least} {ys = ys} nm opened inside closed stray l y =
-    let all = filled-then (filled-then opened inside) closed in
+    let its-own = rw nm at inside in
+    let all = filled-then (filled-then opened its-own) closed in
     rw (l, stray, nm) at (filled-raised all least {ys = ys} y)
 
 -- ---- the loop

@@ -1,0 +1,8 @@
+-- `crowds::Walk::past` meets its contract: each field is what its call says.
+use Rattle.crowds.specs.Crowded.{passed}
+use Rattle.crowds.proofs.Walk.past.Goals as goal
+
+pub returns : goal.returns
+unfolding passed
+returns c =
+    rw (c.index-2.ensures, c.index.ensures, c.size.ensures, c.index-claims.ensures)

@@ -1,0 +1,17 @@
+use Prim.Native.Nat.{◌+◌}
+use lib.ListN.{length}
+use Rattle.rules.specs.Tables.{Tables}
+use Rattle.tables.specs.Index.{Indexed}
+use Rattle.transactions.specs.Walk.{rest_at}
+use Rattle.files.specs.Levels.{FilledTransactions}
+use Rattle.files.proofs.Transactions.{Inv, xs}
+use Rattle.files.proofs.judge_transactions.Given as goal
+
+abbrev pub invariant-loop-p : goal.invariant-loop-p
+invariant-loop-p l =
+    Inv l.named l.file (l.first + length (rest_at l.file l.start)) l.start
+    (λ xs. (tables : Tables) → Indexed tables l.slots → FilledTransactions tables l.t l.named l.first l.p.index xs l.initial.verdicts l.initial.findings l.verdicts l.findings)
+    l.p
+
+abbrev pub decreases-loop-p : goal.decreases-loop-p
+decreases-loop-p l = length (rest_at l.file l.p.at)

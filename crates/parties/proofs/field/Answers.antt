@@ -1,0 +1,25 @@
+-- `parties::field` meets its contract. Assumes nothing.
+use Prim.Native.Nat.{◌+◌}
+use native.Mathlib.Omega.{arith}
+use mathlib.Core.Path.{ap, ◌∙◌}
+use Rattle.format.specs.Fields.{field_of}
+use Rattle.parties.proofs.Fields.{field-here, room}
+use Rattle.parties.proofs.field.Goals as goal
+
+pub overflow_add-index : goal.overflow_add-index
+overflow_add-index c =
+    let args = c.args in
+    let fits = (room args.publishers args.on args.size _ c.requires.0.2 c.requires.1).1 in
+    rw c.index.ensures (omega (arith, fits))
+
+pub field-requires : goal.field-requires
+field-requires c =
+    let args = c.args in
+    rw c.index.ensures (room args.publishers args.on args.size _ c.requires.0.2 c.requires.1)
+
+pub returns : goal.returns
+returns c =
+    let args = c.args in
+    let record-now = args.«record».now in record { result_value = c.field.ensures.result_value
+          ∙ ap (λ n. field_of (n + args.on) args.size record-now) c.index.ensures
+          ∙ field-here args.publishers args.on args.size record-now c.requires.0.0; result_len = c.field.ensures.result_len }
