@@ -1,7 +1,7 @@
 -- A transaction, once its details and its header are counted; a group, once its transactions are. Assumes nothing.
 use Prim.Native.Nat.{ℕ, ◌+◌, ◌-◌, ◌*◌, ◌≤◌}
 use native.Mathlib.Omega.{arith}
-use mathlib.Core.Path.{◌≡◌, refl}
+use mathlib.Core.Path.{subst, ◌≡◌, refl}
 use mathlib.Core.Bool.{Bool, cond, ◌||◌}
 use mathlib.Core.List.{List, [], ◌∷◌, ◌++◌, map}
 use lib.ListN.{length, replicate, length-append, length-map}
@@ -107,7 +107,14 @@ module _ (tables : Tables) (t : ℕ) (named : Bytes) (rs : List Bytes) {i n : �
       → ((us vs : List ℕ) → Grown us vs (n + 1 - i) ls₀ ls → ls' ≡ counts_by_level (us ++ raised (cond stray 4 0) vs))
       → CountedGroup tables t i (n + 1) (group_of rs) fs₀ ls₀ fs ls'
   unfolding group_verdicts_by group_findings_by is_stray verdicts
-  counted-group {stray} nm strays settled = rw (strays, nm) at (part-raised (part-around inside refl refl) lows (cond stray 4 0) settled)
+  counted-group {stray} {ls'} nm strays settled =
+      subst
+      (λ (its : Bytes).
+          Part i (n + 1)
+          (raised (cond (is_stray_among its (transactions_of (tail_of rs))) 4 0)
+              (0 ∷ joined (transaction_verdicts tables t its) (transactions_of (tail_of rs)) ++ 0 ∷ []))
+          ([] ∷ joined (transaction_findings tables t its) (transactions_of (tail_of rs)) ++ [] ∷ []) fs₀ ls₀ fs ls') nm
+      (rw strays at (part-raised (part-around inside refl refl) lows (cond stray 4 0) settled))
 
 -- ---- a file
 

@@ -1,9 +1,8 @@
 -- `collection::raise` meets its contract.
-use Prim.Native.Nat.{ℕ, ◌+◌, ◌-◌, ◌≤◌}
-use mathlib.Core.Path.{◌≡◌, refl, ap, ◌∙◌}
+use Prim.Native.Nat.{ℕ, ◌-◌, ◌≤◌}
+use mathlib.Core.Path.{◌≡◌, ◌∙◌}
 use mathlib.Core.Bool.{Bool, cond}
 use native.Mathlib.Omega.{arith}
-use borrow.Author.Rules.{rules}
 use borrow.Rule.Slice.PartMut.{put_mid}
 use lib.ListN.{length, take, drop, length-drop}
 use lib.Seq.{length-take-le}
@@ -13,8 +12,7 @@ use Rattle.rules.specs.Verdicts.{raised}
 use Rattle.buffers.proofs.Splice.{part-splice}
 use Rattle.buffers.proofs.Raised.{length-raised}
 use Rattle.collection.specs.Marked.{raised_if}
-use Rattle.collection.proofs.raise.Statement.{statement}
-use Rattle.collection.proofs.raise.Tie as tie
+use Rattle.collection.proofs.raise.Goals as goal
 
 raised-part : (rejected : Bool) (from end least : ℕ) (v ys : Bytes) → from ≤ end → end ≤ length v → least ≡ cond rejected (verdict TR) 0
     → ys ≡ raised least (take (end - from) (drop from v)) → put_mid from (end - from) v ys ≡ raised_if rejected from (end - from) v
@@ -24,14 +22,7 @@ raised-part rejected from end least v ys h l e y =
     length-take-le (end - from) (drop from v) (omega (arith, length-drop from v)) in
     rw (y, e) (part-splice from (end - from) _ v (length-raised (cond rejected (verdict TR) 0) _ ∙ long))
 
-returns : tie.Need-returns
+pub returns : goal.returns
 returns c =
-    let start = c.before.before.before.before.before.before in
-    raised-part start.args.rejected start.args.from start.args.end _ start.args.verdicts.now _ start.requires.0 start.requires.1
-    c.before.before.before.before.least.ensures c.before.before.raise.ensures
-
-pub raise-spec : {M : Type 1} → statement M
-raise-spec =
-    tie.close
-    (tie.spec
-    (λ c κs. search rules) (λ c. search rules) (λ c. search rules) (λ c. search rules) (λ c κs. search rules) (λ c. search rules) returns)
+    raised-part c.args.rejected c.args.from c.args.end _ c.args.verdicts.now _ c.requires.0 c.requires.1
+    c.least-least.ensures c.raise.ensures

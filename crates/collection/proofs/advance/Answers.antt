@@ -1,0 +1,73 @@
+-- `collection::advance` meets its contract: each turn takes one transaction more, or one control record.
+use native.Mathlib.Omega.{arith}
+use mathlib.Core.Path.{◌∙◌}
+use Rattle.kinds.proofs.Laws.{hinted}
+use Rattle.structure.proofs.Rows.{in_table}
+use Rattle.collection.proofs.Advancing.{starts, three, numbered, past_one, in-doubt, ends, is-head, at-end, past-control, fewer-after}
+use Rattle.collection.proofs.advance.Goals as goal
+
+pub loop-rows-init : goal.loop-rows-init
+loop-rows-init c = let (m, lent, standing) = c.requires in starts lent standing
+
+pub hint_at-k-requires : goal.hint_at-k-requires
+hint_at-k-requires c = three c.loop-rows.invariant
+
+pub row_at-row-requires : goal.row_at-row-requires
+row_at-row-requires c =
+    let hint = c.hint_at-k in
+    let table = c.table-rows in
+    let listed = in_table table.result table.ensures hint.result hint.ensures in
+    (three c.loop-rows.invariant, λ type e. hinted table.result table.ensures type hint.result listed _ e)
+
+pub shape_of-verdicts-then-row-eq-TRL : goal.shape_of-verdicts-then-row-eq-TRL
+shape_of-verdicts-then-row-eq-TRL c = c.loop-rows.invariant.long_v
+
+pub shape_of-findings-then-row-eq-TRL : goal.shape_of-findings-then-row-eq-TRL
+shape_of-findings-then-row-eq-TRL c = c.loop-rows.invariant.long_g
+
+pub returns-then-row-eq-TRL : goal.returns-then-row-eq-TRL
+returns-then-row-eq-TRL c = let told = at-end c.loop-rows.invariant c.row_at-row.ensures c.if-row-eq-TRL.true 0 in record { by_index = told.0; result_bound = told.1 }
+
+pub judge_transaction-s-requires : goal.judge_transaction-s-requires
+judge_transaction-s-requires c =
+    let u = c.loop-rows.invariant in
+    (u.m, u.lent, u.standing, is-head u c.row_at-row.ensures c.if-row-eq-HEAD.true)
+
+pub shape_of-verdicts-then-s : goal.shape_of-verdicts-then-s
+shape_of-verdicts-then-s c =
+    c.judge_transaction-s.auto.verdicts ∙ c.loop-rows.invariant.long_v
+
+pub shape_of-findings-then-s : goal.shape_of-findings-then-s
+shape_of-findings-then-s c =
+    c.judge_transaction-s.auto.findings ∙ c.loop-rows.invariant.long_g
+
+pub returns-then-s : goal.returns-then-s
+returns-then-s c = let told = let u = c.loop-rows.invariant in
+    in-doubt u c.judge_transaction-s.auto.verdicts c.judge_transaction-s.auto.findings
+    c.judge_transaction-s.ensures.by_index c.judge_transaction-s.ensures.at_in_bounds c.if-s.true in record { by_index = told.0; result_bound = told.1 }
+
+pub loop-rows-smaller-then-row-eq-HEAD : goal.loop-rows-smaller-then-row-eq-HEAD
+loop-rows-smaller-then-row-eq-HEAD c = c.judge_transaction-s.ensures.at_in_bounds
+
+pub loop-rows-preserved-then-row-eq-HEAD : goal.loop-rows-preserved-then-row-eq-HEAD
+loop-rows-preserved-then-row-eq-HEAD c =
+    let u = c.loop-rows.invariant in
+    past_one u c.judge_transaction-s.auto.verdicts c.judge_transaction-s.auto.findings
+    c.judge_transaction-s.ensures.by_index c.judge_transaction-s.ensures.at_in_bounds c.if-s.false
+
+pub past-w-requires : goal.past-w-requires
+past-w-requires c =
+    let u = c.loop-rows.invariant in
+    (omega (arith, ends u c.row_at-row.ensures, u.lent.short, c.size.ensures), numbered u)
+
+pub loop-rows-smaller : goal.loop-rows-smaller
+loop-rows-smaller c =
+    let u = c.loop-rows.invariant in
+    rw c.past-w.ensures
+    (fewer-after u c.row_at-row.ensures c.if-row-eq-TRL.false c.if-row-eq-HEAD.false c.size.result c.size.ensures)
+
+pub loop-rows-preserved : goal.loop-rows-preserved
+loop-rows-preserved c =
+    let u = c.loop-rows.invariant in
+    rw c.past-w.ensures
+    (past-control u c.row_at-row.ensures c.if-row-eq-TRL.false c.if-row-eq-HEAD.false c.size.result c.size.ensures)

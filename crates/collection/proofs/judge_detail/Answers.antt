@@ -1,0 +1,36 @@
+-- `collection::judge_detail` meets its contract.
+use native.Mathlib.Omega.{arith}
+use Rattle.rules.specs.Territories.{territories_in}
+use Rattle.rules.specs.Collection.{is_party}
+use Rattle.rules.proofs.Lists.{only-fewer}
+use Rattle.collection.proofs.Known.{not-wrong, known-party, known-other}
+use Rattle.collection.proofs.Sorts.{claim-here, claim-no-party, party-here, neither-here}
+use Rattle.collection.proofs.judge_detail.Goals as goal
+
+pub judge_claim-requires : goal.judge_claim-requires
+judge_claim-requires c =
+    let a = c.args in
+    let ((detail, long), right, room) = c.requires.stands in
+    let sort = c.if-sort.true in
+    record { claim_record = (claim-here a.row a.«record».now detail.0 long sort, claim-no-party a.row a.«record».now detail.0 sort, right, room); known = c.requires.known }
+
+pub overflow_add-result : goal.overflow_add-result
+overflow_add-result c =
+    let (ds, known, few) = c.requires.known in
+    omega (arith, few, known.party, only-fewer is_party ds)
+
+pub returns-then-sort-2 : goal.returns-then-sort-2
+returns-then-sort-2 c =
+    let a = c.args in
+    let T = territories_in a.table.now in
+    let r = a.«record».now in
+    let kind = party-here a.row r c.requires.stands.0.0.0 c.if-sort-2.true in
+    record { known_2 = λ ds known. known-party T ds a.tally known r kind.0 kind.1; findings_after = rw (not-wrong T r kind.1) }
+
+pub returns : goal.returns
+returns c =
+    let a = c.args in
+    let T = territories_in a.table.now in
+    let r = a.«record».now in
+    let kind = neither-here a.row r c.requires.stands.0.0.0 c.if-sort.false c.if-sort-2.false in
+    record { known_2 = λ ds known. known-other T ds a.tally known r kind.0 kind.1; findings_after = rw (not-wrong T r kind.1) }

@@ -1,0 +1,66 @@
+-- `counting::count_groups` meets its contract: each turn counts one group more. Assumes nothing.
+use mathlib.Core.Path.{refl, sym, ◌∙◌}
+use Rattle.format.specs.Doc.{Group}
+use Rattle.rules.specs.Verdicts.{group_findings, group_verdicts}
+use Rattle.transactions.specs.Walk.{rest_at}
+use Rattle.transactions.specs.Purposes.{Begun}
+use Rattle.files.specs.Levels.{group_of}
+use Rattle.files.proofs.Entries.{joined-last}
+use Rattle.files.proofs.Groups.{begins, position, done, in-file, group-here, one_more, fewer-left, past_all, all_done}
+use Rattle.counting.proofs.Parts.{begun-long, begun-on, part-start, part-more}
+use Rattle.counting.proofs.Shares.{missing-none, missing-then}
+use Rattle.counting.proofs.count_groups.Goals as goal
+
+-- ---- what is counted so far
+pub loop-carriers-init : goal.loop-carriers-init
+loop-carriers-init c =
+    begins (record { here = c.requires.file_len_bound.1; left = refl }) (missing-none _ _, λ tables e. part-start _ _ _)
+
+pub is_group-requires : goal.is_group-requires
+is_group-requires c = in-file c.loop-carriers.invariant
+
+-- ---- one group more
+pub count_group-one-requires : goal.count_group-one-requires
+count_group-one-requires c =
+    let begun : Begun c.loop-carriers.n.index c.loop-carriers.carriers c.loop-carriers.levels =
+        let (some, indexed) = c.requires.t_le_largest_tolerance.1 in
+        begun-on ((done c.loop-carriers.invariant).1 some indexed) c.requires.file_len_bound.3 in
+    let inv = c.loop-carriers.invariant in
+    let here = position inv in
+    let is-grh = group-here inv (sym c.is_group.ensures ∙ c.loop-carriers-test.true) in
+    record { file_len_bound = (c.requires.file_len_bound.0, here.here, is-grh, rw here.left c.requires.file_len_bound.2, begun, (done inv).0.few c.requires.file_len_bound.4); t_le_largest_tolerance = c.requires.t_le_largest_tolerance }
+
+pub loop-carriers-smaller : goal.loop-carriers-smaller
+loop-carriers-smaller c =
+    fewer-left c.loop-carriers.invariant c.count_group-one.result.next c.count_group-one.ensures.past_group
+
+pub loop-carriers-preserved : goal.loop-carriers-preserved
+loop-carriers-preserved c =
+    let inv = c.loop-carriers.invariant in
+    let t = c.args.t in
+    let counted = c.count_group-one.ensures in
+    let g = group_of (rest_at c.args.file.now c.loop-carriers.n.at) in
+    one_more inv c.count_group-one.result.next counted.past_group (
+      rw (joined-last (λ (h : Group). h.transactions) inv.0 g) (missing-then (done inv).0 counted.missing_on),
+      λ tables e. part-more (group_verdicts tables t) (group_findings tables t) inv.0 g ((done inv).1 tables e) (counted.counted_group tables e),
+    )
+
+pub shape_of-carriers : goal.shape_of-carriers
+shape_of-carriers c =
+    let begun : Begun c.loop-carriers.n.index c.loop-carriers.carriers c.loop-carriers.levels =
+        let (some, indexed) = c.requires.t_le_largest_tolerance.1 in
+        begun-on ((done c.loop-carriers.invariant).1 some indexed) c.requires.file_len_bound.3 in
+    (begun-long begun).0 ∙ sym (begun-long c.requires.file_len_bound.3).0
+
+pub shape_of-levels : goal.shape_of-levels
+shape_of-levels c =
+    let begun : Begun c.loop-carriers.n.index c.loop-carriers.carriers c.loop-carriers.levels =
+        let (some, indexed) = c.requires.t_le_largest_tolerance.1 in
+        begun-on ((done c.loop-carriers.invariant).1 some indexed) c.requires.file_len_bound.3 in
+    (begun-long begun).1 ∙ sym (begun-long c.requires.file_len_bound.3).1
+
+pub returns : goal.returns
+returns c =
+    let inv = c.loop-carriers.invariant in
+    let no-group = sym c.is_group.ensures ∙ c.loop-carriers-test.false in
+    record { past_groups = past_all inv no-group; missing_on = (all_done inv no-group).0; counted_groups = (all_done inv no-group).1 }

@@ -1,0 +1,88 @@
+-- `counting::count_transactions` meets its contract: each turn counts one transaction more. Assumes nothing.
+use Prim.Native.Nat.{suc, ◌+◌, ◌≤◌}
+use native.Mathlib.Omega.{arith}
+use mathlib.Core.Path.{◌≡◌, refl, sym, ap, ◌∙◌}
+use lib.ListN.{length}
+use Rattle.format.specs.Structure.{most_records}
+use Rattle.rules.specs.Works.{transaction_findings}
+use Rattle.rules.specs.Verdicts.{transaction_verdicts}
+use Rattle.rules.proofs.Each.{transaction-findings}
+use Rattle.transactions.specs.Walk.{rest_at, front_of}
+use Rattle.transactions.specs.Purposes.{Begun}
+use Rattle.files.proofs.Transactions.{begins, xs, position, done, header-here, one_more, fewer-left, past_all, all_done}
+use Rattle.counting.proofs.Parts.{begun-long, begun-on, part-start, part-more}
+use Rattle.counting.proofs.Shares.{within_more, up_more, missing-none, missing-one, missing-then}
+use Rattle.counting.proofs.count_transactions.Goals as goal
+
+-- ---- what is counted so far
+pub loop-p-init : goal.loop-p-init
+loop-p-init c =
+    begins (record { here = c.requires.file_len_bound.1; left = refl }) (missing-none _ _, λ tables e. part-start _ _ _)
+
+-- ---- one transaction more
+pub count_transaction-one-requires : goal.count_transaction-one-requires
+count_transaction-one-requires c =
+    let begun : Begun c.loop-p.p.index c.loop-p.carriers c.loop-p.levels =
+        let (some, indexed) = c.requires.t_le_largest_tolerance.1 in
+        begun-on ((done c.loop-p.invariant).1 some indexed) c.requires.file_len_bound.3 in
+    let inv = c.loop-p.invariant in
+    let here = position inv in
+    record { file_len_bound = (c.requires.file_len_bound.0, here.here, header-here inv c.loop-p-test.true, rw here.left c.requires.file_len_bound.2, begun); t_le_largest_tolerance = c.requires.t_le_largest_tolerance }
+
+pub with-m-requires : goal.with-m-requires
+with-m-requires c =
+    let few : c.loop-p.p.index ≤ most_records =
+        omega (arith, (position c.loop-p.invariant).left, c.requires.file_len_bound.2) in
+    let ended : c.count_transaction-one.result.passed.index ≡ c.loop-p.p.index + suc (length (front_of (rest_at c.args.file.now c.loop-p.p.at)).details) =
+        let args = c.args in
+        let (some, indexed) = c.requires.t_le_largest_tolerance.1 in
+        (c.count_transaction-one.ensures.counted_transaction some indexed).end
+        ∙ ap (λ n. c.loop-p.p.index + n) (transaction-findings some args.t args.named.now _) in
+    let few-then : c.count_transaction-one.result.passed.index ≤ most_records =
+        omega (arith, c.count_transaction-one.ensures.past_transaction.position.left, (position c.loop-p.invariant).left, c.requires.file_len_bound.2) in
+    (
+      within_more few ((done c.loop-p.invariant).0.few c.requires.file_len_bound.4),
+      up_more _ most_records (omega (arith, ended, few-then)) c.count_transaction-one.ensures.total_value.1,
+    )
+
+pub loop-p-smaller : goal.loop-p-smaller
+loop-p-smaller c =
+    fewer-left c.loop-p.invariant c.count_transaction-one.result.passed c.loop-p-test.true c.count_transaction-one.ensures.past_transaction
+
+pub loop-p-preserved : goal.loop-p-preserved
+loop-p-preserved c =
+    let ended : c.count_transaction-one.result.passed.index ≡ c.loop-p.p.index + suc (length (front_of (rest_at c.args.file.now c.loop-p.p.at)).details) =
+        let args = c.args in
+        let (some, indexed) = c.requires.t_le_largest_tolerance.1 in
+        (c.count_transaction-one.ensures.counted_transaction some indexed).end
+        ∙ ap (λ n. c.loop-p.p.index + n) (transaction-findings some args.t args.named.now _) in
+    let with = c.with-m in
+    let inv = c.loop-p.invariant in
+    let args = c.args in
+    let counted = c.count_transaction-one.ensures in
+    let x = front_of (rest_at args.file.now c.loop-p.p.at) in
+    one_more inv c.count_transaction-one.result.passed c.loop-p-test.true counted.past_transaction (
+      missing-then (done inv).0 (missing-one x ended counted.total_value.0 counted.total_value.1 with.ensures.value with.ensures.by_index),
+      λ tables e. part-more (transaction_verdicts tables args.t args.named.now) (transaction_findings tables args.t args.named.now) (xs inv) x
+          ((done inv).1 tables e) (counted.counted_transaction tables e),
+    )
+
+pub shape_of-carriers : goal.shape_of-carriers
+shape_of-carriers c =
+    let begun : Begun c.loop-p.p.index c.loop-p.carriers c.loop-p.levels =
+        let (some, indexed) = c.requires.t_le_largest_tolerance.1 in
+        begun-on ((done c.loop-p.invariant).1 some indexed) c.requires.file_len_bound.3 in
+    (begun-long begun).0 ∙ sym (begun-long c.requires.file_len_bound.3).0
+
+pub shape_of-levels : goal.shape_of-levels
+shape_of-levels c =
+    let begun : Begun c.loop-p.p.index c.loop-p.carriers c.loop-p.levels =
+        let (some, indexed) = c.requires.t_le_largest_tolerance.1 in
+        begun-on ((done c.loop-p.invariant).1 some indexed) c.requires.file_len_bound.3 in
+    (begun-long begun).1 ∙ sym (begun-long c.requires.file_len_bound.3).1
+
+pub returns : goal.returns
+returns c =
+    let inv = c.loop-p.invariant in
+    let no_Header = c.loop-p-test.false in
+    record { past_transactions = past_all inv no_Header; missing_on = (all_done inv no_Header).0; counted_transactions = (all_done inv no_Header).1 }

@@ -1,0 +1,17 @@
+use Prim.Native.Nat.{◌+◌}
+use lib.ListN.{length}
+use Rattle.rules.specs.Tables.{Tables}
+use Rattle.tables.specs.Index.{Indexed}
+use Rattle.transactions.specs.Walk.{rest_at}
+use Rattle.files.proofs.Transactions.{Inv}
+use Rattle.counting.specs.Levels.{MissingOn, CountedTransactions}
+use Rattle.counting.proofs.count_transactions.Given as goal
+
+abbrev pub invariant-loop-p : goal.invariant-loop-p
+invariant-loop-p l =
+    Inv l.named l.file (l.first + length (rest_at l.file l.start)) l.start
+    (λ xs. MissingOn l.first l.p.index xs l.initial.m l.m
+    × ((tables : Tables) → Indexed tables l.slots → CountedTransactions tables l.t l.named l.first l.p.index xs l.initial.carriers l.initial.levels l.carriers l.levels)) l.p
+
+abbrev pub decreases-loop-p : goal.decreases-loop-p
+decreases-loop-p l = length (rest_at l.file l.p.at)
