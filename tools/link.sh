@@ -1,8 +1,9 @@
 # Sourced, not run: how a C program over an archive of the library is built and started. The archive is for x86-64 and so is the program,
 # on whatever machine it is built: compiler, linker and C library are those of the Rattle kit, the headers those of tools/libc. Another
-# processor needs the kit's emulator to start it, and that is all that differs.
+# processor needs an emulator to start it, qemu-x86_64, and that is all that differs.
 #
-# Before it is used, `made` is the folder for what is built, and `me` the name of the script that sources this, for its messages.
+# Before it is used, `made` is the folder for what is built, and `me` the name of the script that sources this, for its messages. The current
+# folder is the top of the repository.
 
 stop() {
   printf '%s: %s\n' "$me" "$*" >&2
@@ -25,11 +26,13 @@ needs() {
   done
 }
 
-# archive_of CRATE: builds its archive; `archive` is its path
+# archive_of CRATE: builds its archive, over whatever is proved of it and below it, and proves the rest first; `archive` is the path of a
+# copy, since a later check of the crate may take away what stands in out/
 archive_of() {
   needs rt
-  build "the archive of crate $1" rt staticlib "$1"
-  archive=target/staticlib/lib$1.a
+  build "the archive of crate $1" env -C "crates/$1" rt lib
+  archive=$made/lib$1.a
+  build "the archive of crate $1" cp "crates/$1/out/lib$1.a" "$archive"
 }
 
 # independent_archive: builds the independent program of tests/ as an archive with the library's calls, for this machine; `archive` is its
@@ -41,12 +44,12 @@ independent_archive() {
   archive=target/comparison/release/examples/libstand_in.a
 }
 
-# find_kit: the kit's tools for this machine, and its C library for x86-64
+# find_kit: the kit's tools, and its C library for x86-64. `rt doc` names the page at the top of the kit.
 find_kit() {
-  local kit
+  local page
   needs rt
-  kit=${RATTLE_HOME:-$(dirname "$(dirname "$(readlink -f "$(type -P rt)")")")}
-  kit_tools=$kit/on/$(uname -m)/toolchain
+  page=$(rt doc) || stop 'rt does not say where its kit is'
+  kit_tools=${page%/*}/toolchain
   kit_lib=$kit_tools/lib
 }
 
@@ -65,7 +68,7 @@ start_of() {
   local loader emulator=()
   find_kit
   loader=$kit_lib/ld-linux-x86-64.so.2
-  is_x86_64 || emulator=("$kit_tools/bin/qemu-x86_64")
+  is_x86_64 || emulator=(qemu-x86_64)
   needs "${emulator[@]}" "$loader"
   start=("${emulator[@]}" "$loader" --library-path "$kit_lib" "$1")
   forget_emulator
@@ -82,11 +85,13 @@ write_starter() {
   } >"$1" && chmod +x "$1" || stop "cannot write $1"
 }
 
-# program_of CRATE: builds the program that a crate is; `start` is the command that starts it
+# program_of CRATE [TREE]: builds the program that a crate is, in this checkout or in another; `start` is the command that starts it. rt
+# builds a program only to run it, so it is run once, on the crate's own input.
 program_of() {
+  local crate=${2:-$PWD}/crates/$1
   needs rt
-  build "the program $1" rt check "$1"
-  start_of "$PWD/target/bin/$1"
+  build "the program $1" env -C "$crate" rt run <"$crate/stdin"
+  start_of "$crate/out/$1"
 }
 
 # link_program OUT FLAG.. -- FILE..: compiles each FILE that ends in .c with the flags and links all FILEs to the program OUT. `start` is
