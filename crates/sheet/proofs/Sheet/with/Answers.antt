@@ -1,0 +1,20 @@
+-- `sheet::Sheet::with` meets its contract: each figure is its own call's. Assumes nothing.
+use Prim.Native.Nat.{ℕ}
+use mathlib.Core.Path.{◌≡◌, sym}
+use borrow.Author.Rules.{rules, length_unmapped}
+use lib.ListN.{length}
+use Rattle.rules.specs.Sheet.{with_sheet}
+use Rattle.sheet.proofs.Sheet.with.Goals as goal
+
+pub returns : goal.returns
+unfolding with_sheet
+returns c =
+    λ i. record {
+      files = c.plus.ensures i;
+      refused = c.plus-2.ensures i;
+      pr = c.with-self.ensures i;
+      mr = c.with-self-2.ensures i;
+      sr = c.with-self-3.ensures i;
+      findings = c.plus_each.ensures i;
+      verdicts = c.plus_each-2.ensures i;
+    }
