@@ -37,10 +37,9 @@ pub word-then : {a r s : ℕ} {y o n m : Bytes} (w : Bytes) (x : ℕ) → Put a 
 word-then {y = y} w x p q = rw (append_assoc w (x ∷ []) y) at (then p q)
 
 -- a word that was copied into its part of the buffer, and a byte stored after it
-pub word-put : (w part ys out : Bytes) (a e x : ℕ) → e ≡ a + length w → e < length out → length part ≡ length w
-    → ys ≡ take (length w) w ++ drop (length w) part → Put a (w ++ x ∷ []) out (set (put_mid a (e - a) out ys) e x) (e + 1)
-word-put w part ys out a e x q h l c =
-    let same : ys ≡ w = c ∙ rw (take_all (length w) w (omega arith), drop_of_length-le part {i = length w} (omega arith)) (append-nil w) in
+pub word-put : (w ys out : Bytes) (a e x : ℕ) → e ≡ a + length w → e < length out
+    → ys ≡ w → Put a (w ++ x ∷ []) out (set (put_mid a (e - a) out ys) e x) (e + 1)
+word-put w ys out a e x q h same =
     let k : length w ≡ e - a = omega arith in
     let fit : a + length w ≤ length out = omega arith in
     let first : put_mid a (e - a) out ys ≡ splice a w out = rw same (part-splice a (e - a) w out k) in
