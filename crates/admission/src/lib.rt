@@ -1,5 +1,6 @@
 // Whether a file is let in with its tables and a tolerance: refusals 1 to 10, and 13 with a territory table, before any buffer is looked at.
 #![tactic(auto)]
+
 ghost use Rattle.std.specs.Prelude.{◌≡◌};
 ghost use Rattle.rules.specs.Tables.{tables_of};
 ghost use Rattle.format.specs.Lent.{in_room};

@@ -1,5 +1,6 @@
 // What a check writes into the two buffers that it was lent: for each record one verdict byte, and the eight bytes of its findings.
 #![tactic(auto)]
+
 ghost use Rattle.std.specs.Prelude.{◌≡◌, Bool, cond, List, [], ◌∷◌, ◌+◌, ◌*◌, ◌<◌, ◌≤◌, length};
 ghost use Rattle.rules.specs.Findings.{set_of};
 ghost use Rattle.rules.specs.Verdicts.{raised};

@@ -1,6 +1,7 @@
 // A list of claims that the caller lends. Each function over it is a walk by hand, and thin: what is read of a file, and what a claim adds, is the
 // crate `claims`.
 #![tactic(auto)]
+
 ghost use Rattle.std.specs.Prelude.{◌≡◌, true, ◌++◌, ◌≤◌, length, take, drop, replicate};
 ghost use Rattle.format.specs.Structure.{most_records};
 ghost use Rattle.rules.specs.Values.{largest_tolerance};

@@ -1,6 +1,7 @@
 // The claims of a transaction as entries of a list, and what they come to in each territory. In a work table there are eight words for a
 // territory: whether the entry at hand speaks of it, and by right what the party at hand gives there and what the parties before it gave.
 #![tactic(auto)]
+
 ghost use Rattle.std.specs.Prelude.{◌≡◌, true, false, cond, ◌&&◌, ◌||◌, List, [], ◌∷◌, ◌++◌, ℕ, ◌+◌, ◌*◌, ◌^◌, ◌<◌, ◌≤◌, eqb, ltb, length, get_or, replicate};
 ghost use Rattle.rules.specs.Values.{full_share, largest_tolerance};
 ghost use Rattle.rules.specs.Totals.{PR, MR, SR, exceeds};

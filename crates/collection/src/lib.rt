@@ -2,6 +2,7 @@
 // set beside those that stand there, and the verdicts of their transactions raised. Most transactions need no look at any territory: where
 // each party's largest share fits, none can be over. A walk goes on to the next transaction in doubt, whose claims its caller counts.
 #![tactic(auto)]
+
 ghost use Rattle.std.specs.Prelude.{◌≡◌, Bool, true, false, cond, ◌&&◌, List, [], ◌∷◌, ◌++◌, ℕ, ◌+◌, ◌-◌, ◌*◌, ◌/◌, ◌<◌, ◌≤◌, length, take, drop};
 ghost use Rattle.format.specs.Bytes.{Bytes};
 ghost use Rattle.format.specs.Table.{head};

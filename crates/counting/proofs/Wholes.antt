@@ -110,10 +110,10 @@ module _ (tables : Tables) (t : ℕ) (named : Bytes) (rs : List Bytes) {i n : �
   counted-group {stray} {ls'} nm strays settled =
       subst
       (λ (its : Bytes).
-          Part i (n + 1)
-          (raised (cond (is_stray_among its (transactions_of (tail_of rs))) 4 0)
-              (0 ∷ joined (transaction_verdicts tables t its) (transactions_of (tail_of rs)) ++ 0 ∷ []))
-          ([] ∷ joined (transaction_findings tables t its) (transactions_of (tail_of rs)) ++ [] ∷ []) fs₀ ls₀ fs ls') nm
+      Part i (n + 1)
+      (raised (cond (is_stray_among its (transactions_of (tail_of rs))) 4 0)
+      (0 ∷ joined (transaction_verdicts tables t its) (transactions_of (tail_of rs)) ++ 0 ∷ []))
+      ([] ∷ joined (transaction_findings tables t its) (transactions_of (tail_of rs)) ++ [] ∷ []) fs₀ ls₀ fs ls') nm
       (rw strays at (part-raised (part-around inside refl refl) lows (cond stray 4 0) settled))
 
 -- ---- a file

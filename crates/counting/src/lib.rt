@@ -1,6 +1,7 @@
 // What a sheet tells of a file that is right by 3 to 10 (M-103). The walk is the check's, but nothing is written: how many records carry each
 // finding and how many have each level is counted as they come, and the levels are raised at the end of a transaction or a group.
 #![tactic(auto)]
+
 ghost use Rattle.std.specs.Prelude.{◌≡◌, ◌+◌, ◌≤◌, length};
 ghost use Rattle.format.specs.Table.{hdr, grh, grt, head, unknown};
 ghost use Rattle.format.specs.Cwr22.{cwr22};

@@ -1,5 +1,6 @@
 // What a walk over the records of a file counts, and the numbers that each record has to carry: compared, and written.
 #![tactic(auto)]
+
 ghost use Rattle.std.specs.Prelude.{◌≡◌, ◌++◌, cond, ◌+◌, ◌-◌, ◌≤◌, length, take, drop};
 ghost use Rattle.format.specs.Bytes.{same_bytes, decimal, bytes_of};
 ghost use Rattle.format.specs.Fields.{field_of};

@@ -1,6 +1,7 @@
 // Refusal 14 of a check with a territory table (M-105): the first transaction with more claims than the lent list has entries, in a file that is
 // right by 3 to 10. One walk over all records, which stops at the first claim that is too many.
 #![tactic(auto)]
+
 ghost use Rattle.std.specs.Prelude.{◌≡◌, ◌+◌, ◌<◌, ◌≤◌, length};
 ghost use Rattle.format.specs.Table.{unknown};
 ghost use Rattle.format.specs.Structure.{most_bytes, most_records};

@@ -1,6 +1,7 @@
 // The library: the calls that are open to others. Each takes whatever it is lent, and its contract states the entire outcome, by one of the
 // promises in specs/Promises.antt.
 #![tactic(auto)]
+
 ghost use Rattle.std.specs.Prelude.{◌≡◌, true, ◌≤◌, length};
 ghost use Rattle.format.specs.Lent.{in_room};
 ghost use Rattle.format.specs.Structure.{most_bytes, most_records};

@@ -1,6 +1,7 @@
 // The library as C calls it: bytes in and out, and one number for an answer: a refusal's number times 2 to the 32 plus its place, or what
 // was asked for, the number of records or of a transaction. include/cwr.h declares these calls.
 #![tactic(auto)]
+
 ghost use Rattle.std.specs.Prelude.{◌≡◌, ◌≤◌, length};
 ghost use Rattle.format.specs.Bytes.{bytes_of};
 ghost use Rattle.rules.specs.Outcome.{short_tolerance};

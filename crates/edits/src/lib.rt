@@ -1,6 +1,7 @@
 // The findings on one record: one function finds each, and one for each kind of record puts those that it can have into a set, with the
 // largest verdict among them. What serves several findings, or the transaction too, is read off the record once.
 #![tactic(auto)]
+
 ghost use Rattle.std.specs.Prelude.{◌≡◌, false, ◌||◌, [], ◌∷◌, ◌++◌, ◌+◌, ◌≤◌, length, replicate};
 ghost use Rattle.format.specs.Bytes.{same_bytes};
 ghost use Rattle.rules.specs.Values.{full_share, share_of, bad_share};

@@ -1,6 +1,7 @@
 // What a catalogue sheet tells of one file (M-103), counted as its records and transactions come: by right what they miss of the full share,
 // how many records carry each finding, and how many have each verdict.
 #![tactic(auto)]
+
 ghost use Rattle.std.specs.Prelude.{◌≡◌, Bool, cond, List, [], ◌∷◌, ◌++◌, ℕ, ◌+◌, ◌-◌, ◌*◌, ◌≤◌, length};
 ghost use Rattle.format.specs.Bytes.{All};
 ghost use Rattle.format.specs.Doc.{Transaction};

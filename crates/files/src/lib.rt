@@ -1,6 +1,7 @@
 // A whole file that is right by 3 to 10: its groups one after the other, and in each its transactions. Each record's set and verdict is
 // written as it comes; at the end of a group its verdicts are raised where a header in it has finding 0.
 #![tactic(auto)]
+
 ghost use Rattle.std.specs.Prelude.{◌≡◌, true, [], ◌∷◌, ◌+◌, ◌*◌, ◌≤◌, ◌<◌, eqb, length, get_or};
 ghost use Rattle.format.specs.Table.{hdr, grh, grt, unknown};
 ghost use Rattle.format.specs.Cwr22.{cwr22};

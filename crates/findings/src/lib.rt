@@ -1,6 +1,7 @@
 // Findings as sets, which are numbers with bit n for finding n, and as verdicts: a row of findings that hold or not packed into a set, the
 // largest verdict among them, and of a set how many are in it, the lowest, and its eight bytes.
 #![tactic(auto)]
+
 ghost use Rattle.std.specs.Prelude.{◌≡◌, ◌+◌, ◌≤◌, false, ◌++◌, length, replicate};
 ghost use Rattle.rules.specs.Findings.{set_of, places, count_of, lowest_of, larger, worst};
 ghost use Rattle.findings.specs.Many.{many};

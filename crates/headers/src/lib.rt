@@ -1,5 +1,6 @@
 // The findings on a transaction's header: 0 to 15, which hang on the whole transaction, joined with those on the header's own fields.
 #![tactic(auto)]
+
 ghost use Rattle.std.specs.Prelude.{◌≡◌, Bool, false, List, [], ◌∷◌, ◌++◌, ◌^◌, ◌≤◌, length, replicate};
 ghost use Rattle.format.specs.Bytes.{Bytes};
 ghost use Rattle.rules.specs.Tables.{Tables};

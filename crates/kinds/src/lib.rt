@@ -1,6 +1,7 @@
 // The record types in one fixed table, and the row of a record. specs/Rows.antt makes the same rows of the format's own table
 // and stages; `table` is proved equal to them.
 #![tactic(auto)]
+
 ghost use Rattle.std.specs.Prelude.{◌≡◌, true, [], ◌∷◌, ◌<◌, ◌≤◌, length, take};
 ghost use Rattle.format.specs.Bytes.{Bytes, same_bytes};
 ghost use Rattle.kinds.specs.Rows.{no_row, kinds, shape_of, type_of, first_row, row_for};

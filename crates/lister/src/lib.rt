@@ -1,6 +1,7 @@
 // The listing of a file, written into a lent buffer: one line for the answer of the check, then one for each record of a file that passes.
 // Each function writes from a place on and answers the place after what it wrote.
 #![tactic(auto)]
+
 ghost use Rattle.std.specs.Prelude.{◌≡◌, true, [], ◌∷◌, ◌++◌, ◌+◌, ◌*◌, ◌<◌, ◌≤◌, length, drop};
 ghost use Rattle.format.specs.Lines.{lines};
 ghost use Rattle.format.specs.Structure.{refused, passed};

@@ -1,5 +1,6 @@
 // Reads standard input and prints its listing. One byte more than the most is read, so that an input that is too long is seen to be so.
 #![tactic(auto)]
+
 ghost use Rattle.std.specs.Prelude.{◌≡◌, ◌+◌, length};
 ghost use Rattle.io.specs.Counts.{IsPrefixLen};
 ghost use Rattle.rules.specs.Listing.{most_input};

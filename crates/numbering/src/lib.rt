@@ -1,6 +1,7 @@
 // Numbering: a file's numbers written afresh into a lent buffer. All refusals come first, so that a refused call writes nothing; then
 // one walk copies each line and writes its numbers over what stood there.
 #![tactic(auto)]
+
 ghost use Rattle.std.specs.Prelude.{◌≡◌, ◌++◌, ◌+◌, ◌≤◌, length, take, drop};
 ghost use Rattle.format.specs.Table.{at, width};
 ghost use Rattle.format.specs.Cwr22.{cwr22};

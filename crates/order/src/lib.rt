@@ -1,5 +1,6 @@
 // The order of a transaction's details, finding 8: where a walk stands in the sequence of stages.
 #![tactic(auto)]
+
 ghost use Rattle.std.specs.Prelude.{◌≡◌, List, [], ◌∷◌, ◌++◌, take};
 ghost use Rattle.format.specs.Bytes.{Bytes};
 ghost use Rattle.format.specs.Table.{detail};

@@ -1,6 +1,7 @@
 // The claims of a transaction, read off a lent file one by one; and a quick test, by each party's largest share, that they are too small to
 // come to more than all anywhere.
 #![tactic(auto)]
+
 ghost use Rattle.std.specs.Prelude.{◌≡◌, true, cond, ◌||◌, List, [], ◌∷◌, ◌++◌, ℕ, ◌+◌, ◌^◌, ◌<◌, ◌≤◌, eqb, length, take, drop};
 ghost use Rattle.rules.specs.Values.{full_share, largest_tolerance};
 ghost use Rattle.rules.specs.Totals.{Right};

@@ -1,5 +1,6 @@
 // For tests and bench alone: the calls below the finished library that they reach.
 #![tactic(auto)]
+
 ghost use Rattle.std.specs.Prelude.{◌≡◌, length};
 ghost use Rattle.format.specs.Cwr22.{cwr22};
 ghost use Rattle.format.specs.Structure.{structure};

@@ -12,7 +12,7 @@ use Rattle.format.specs.Lines.{lines}
 use Rattle.format.specs.Structure.{Answer, refused, passed, judged, structure}
 use Rattle.format.specs.Tree.{tree}
 use Rattle.format.proofs.Examples.{file_a}
-use Rattle.rules.specs.Tables.{Tables, tables_of, right_table}
+use Rattle.rules.specs.Tables.{tables_of, right_table}
 use Rattle.rules.specs.Records.{only}
 use Rattle.rules.specs.Findings.{level, worst}
 use Rattle.rules.specs.Verdicts.{rejects, raised, is_stray, group_findings_by, file_findings_by, transaction_verdicts_by, group_verdicts_by, file_verdicts_by}

@@ -1,6 +1,7 @@
 // The first transaction of a file with a TR or GR finding of its own (M-100), in a file that is right by 3 to 10. The walk is the check's,
 // but nothing is written and it stops at the first such finding, be it on a detail: no later record is judged.
 #![tactic(auto)]
+
 ghost use Rattle.std.specs.Prelude.{◌≡◌, ◌+◌, ◌≤◌, length};
 ghost use Rattle.format.specs.Table.{grh, grt, head, unknown};
 ghost use Rattle.format.specs.Cwr22.{cwr22};

@@ -1,6 +1,7 @@
 // The client's catalogue sheet: the figures of the files taken so far. A file has a sheet of its own, and a sheet grows by that of one file
 // more; specs/Told.antt says what a sheet in code stands for.
 #![tactic(auto)]
+
 ghost use Rattle.std.specs.Prelude.{◌≡◌, true, false, [], ◌∷◌, ◌^◌, ◌<◌, ◌≤◌, length, ◌+ℤ◌};
 ghost use Rattle.std.proofs.Math.IntN.{sub_ℕ};
 ghost use Rattle.format.specs.Table.{unknown};

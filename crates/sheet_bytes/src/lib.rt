@@ -1,5 +1,6 @@
 // A sheet in bytes that a caller of the C interface lends: read as a struct, and written back. specs/Layout.antt has the layout.
 #![tactic(auto)]
+
 ghost use Rattle.std.specs.Prelude.{◌≡◌, [], ◌∷◌, ◌++◌, ◌≤◌, length, drop};
 ghost use Rattle.sheet.specs.Told.{told_missed, told_of};
 ghost use Rattle.sheet_bytes.specs.Layout.{sheet_size, signed_of, unsigned_of, number_at, numbers_at, missed_at, sheet_in, bytes_of_sheet};

@@ -1,6 +1,7 @@
 // Refusals 3 to 10 over a lent file. A right file is decided by one walk that jumps from record to record by the rows' lengths. It
 // stops at the first doubt, and only then plain scans look for the refusal and its place, from there on.
 #![tactic(auto)]
+
 ghost use Rattle.std.specs.Prelude.{◌≡◌, Bool, true, cond, not, ◌&&◌, ◌||◌, ◌+◌, ◌≤◌, eqb, length, take, drop};
 ghost use Rattle.format.specs.Bytes.{same_bytes};
 ghost use Rattle.format.specs.Table.{at, width};

@@ -1,6 +1,7 @@
 // The lent tables: whether one is right, and whether a code is in it. A file may ask for some hundred thousand codes, so the tables are
 // indexed once, and then the index alone is asked. It is in slots that the caller lends.
 #![tactic(auto)]
+
 ghost use Rattle.std.specs.Prelude.{◌≡◌, true, List, ℕ, ◌+◌, ◌*◌, ◌<◌, ◌≤◌, length, take, drop, replicate};
 ghost use Rattle.format.specs.Bytes.{Bytes, among};
 ghost use Rattle.rules.specs.Tables.{Tables, tables_of, language_size, society_size, category_size, most_entries, right_table, entries, is_in};

@@ -1,6 +1,7 @@
 // What a transaction's header is judged by, gathered detail by detail: totals, order, marks and the last sequence number. The chains are
 // kept beside it, since they are large and only publisher records change them.
 #![tactic(auto)]
+
 ghost use Rattle.std.specs.Prelude.{◌≡◌, false, List, [], ◌∷◌, ◌++◌, ◌^◌};
 ghost use Rattle.format.specs.Bytes.{Bytes};
 ghost use Rattle.rules.specs.Records.{is_publisher, is_writer};

@@ -2,6 +2,7 @@
 // walked over, and of each transaction in doubt listed and counted. It stands apart from the library's other calls because a list of structs
 // is lent to it, so that its proof is by hand.
 #![tactic(auto)]
+
 ghost use Rattle.std.specs.Prelude.{◌≡◌, ℕ, ◌<◌, ◌≤◌, length};
 ghost use Rattle.format.specs.Bytes.{Bytes};
 ghost use Rattle.format.specs.Table.{unknown};

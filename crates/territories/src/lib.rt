@@ -1,6 +1,7 @@
 // The lent territory table: whether it is right, where a code stands in it, and the group of a territory. Hints make the search for a code
 // short; none is trusted.
 #![tactic(auto)]
+
 ghost use Rattle.std.specs.Prelude.{◌≡◌, true, [], ◌+◌, ◌*◌, ◌<◌, ◌≤◌, length, drop, get_or};
 ghost use Rattle.format.specs.Bytes.{same_bytes, among};
 ghost use Rattle.rules.specs.Territories.{territories_in, codes_of, no_group, most_territories, any_twice, groups_earlier, right_territories};

@@ -1,6 +1,7 @@
 // The totals of a transaction's shares, and findings 1 to 3 on them. Nothing wraps: a transaction may hold 92,000 share records at 99999,
 // whose total is past 32 bits.
 #![tactic(auto)]
+
 ghost use Rattle.std.specs.Prelude.{◌≡◌, true, List, [], ◌∷◌, ◌++◌, ℕ, ◌+◌, ◌^◌, ◌≤◌};
 ghost use Rattle.format.specs.Bytes.{Bytes};
 ghost use Rattle.rules.specs.Values.{largest_tolerance};

@@ -1,6 +1,7 @@
 // One transaction of a file that is right by 3 to 10: its details are judged and counted one by one, then its header is judged by what
 // was counted. Each record's set and verdict is written as it comes.
 #![tactic(auto)]
+
 ghost use Rattle.std.specs.Prelude.{◌≡◌, Bool, true, false, ◌&&◌, List, [], ◌∷◌, ◌++◌, ℕ, ◌+◌, ◌^◌, ◌<◌, ◌≤◌, eqb, length, take, drop};
 ghost use Rattle.format.specs.Bytes.{Bytes, same_bytes};
 ghost use Rattle.format.specs.Table.{head};

@@ -1,6 +1,7 @@
 // What a field may hold beyond digits: zeros, a date, a duration, an ISWC, a share. Where the width is fixed the bytes are looked at one
 // by one, with no loop: nearly every record has shares or dates.
 #![tactic(auto)]
+
 ghost use Rattle.std.specs.Prelude.{◌≡◌, ◌&&◌, [], ◌∷◌, ◌+◌, ◌-◌, ◌≤◌, leb, length};
 ghost use Rattle.format.specs.Fields.{field_of, are_digits, number_of};
 ghost use Rattle.rules.specs.Values.{are_zeros, leap_year, days_in, is_day, is_date, is_duration, iswc_sum, is_iswc};

@@ -17,6 +17,6 @@ loop-i-preserved c =
     let less : i < n = c.loop-i-test.true in (
       omega arith,
       ap (λ zs. set zs i no_claim) c.loop-i.invariant.1
-      ∙ ap (set (laid es ys n long c.requires i) i) (sym (get_or-replicate n i no_claim no_claim less))
-      ∙ laid_next es ys n long c.requires i no_claim less,
+          ∙ ap (set (laid es ys n long c.requires i) i) (sym (get_or-replicate n i no_claim no_claim less))
+          ∙ laid_next es ys n long c.requires i no_claim less,
     )

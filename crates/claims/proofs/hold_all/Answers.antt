@@ -22,8 +22,7 @@ hold-requires c = c.loop-j.invariant.1.0
 
 pub loop-j-preserved : goal.loop-j-preserved
 loop-j-preserved c =
-    let l = c.loop-j in
-    (
+    let l = c.loop-j in (
       omega (arith, c.loop-j-test.true),
       holding-on (territories_in c.args.table.now) l.j l.held c.hold.new.held c.group-group.result
           (omega (arith, c.loop-j-test.true, c.count-n.ensures)) c.group-group.ensures.value l.invariant.1 c.hold.ensures.held_len c.hold.ensures.by_index,

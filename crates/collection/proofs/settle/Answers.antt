@@ -40,7 +40,10 @@ returns c =
       transaction = c.index.result;
       territory = c.index-2.result;
       header = a.w.header;
-    } in record { owes = λ f t m first v' g' o doubts is.
+    } in record {
+      owes = λ f t m first v' g' o doubts is.
           rw (c.raise.ensures, c.set_47.ensures)
           (settled doubts after refl refl refl test (same ∙ is-over f a.table.now t first a.over is)
-          (told_with f a.table.now t first a.over is a.w after test same refl c.index.ensures c.index-2.ensures)); at_value = refl }
+          (told_with f a.table.now t first a.over is a.w after test same refl c.index.ensures c.index-2.ensures));
+      at_value = refl;
+    }

@@ -16,34 +16,39 @@ use Rattle.counting.proofs.count_file.Goals as goal
 
 pub count_groups-all-requires : goal.count_groups-all-requires
 count_groups-all-requires c =
-    let here = groups-here c.requires.file_len_bound.1 in record { file_len_bound = (
+    let here = groups-here c.requires.file_len_bound.1 in record {
+      file_len_bound = (
         c.requires.file_len_bound.0,
         here.here,
         rw here.left c.requires.file_len_bound.2,
         begun-none 1,
         within_more (omega arith) c.none-none.ensures.1,
-      ); t_le_largest_tolerance = c.requires.t_le_largest_tolerance }
+      );
+      t_le_largest_tolerance = c.requires.t_le_largest_tolerance;
+    }
 
 pub overflow_add-n : goal.overflow_add-n
 overflow_add-n c =
     let few : c.count_groups-all.result.next.index + 1 ≤ most_records =
-        omega (arith, c.count_groups-all.ensures.past_groups.position.left, (groups-here c.requires.file_len_bound.1).left, c.requires.file_len_bound.2) in
+    omega (arith, c.count_groups-all.ensures.past_groups.position.left, (groups-here c.requires.file_len_bound.1).left, c.requires.file_len_bound.2) in
     omega (arith, few)
 
 pub by_verdict-verdicts-requires : goal.by_verdict-verdicts-requires
 by_verdict-verdicts-requires c =
     let few : c.count_groups-all.result.next.index + 1 ≤ most_records =
-        omega (arith, c.count_groups-all.ensures.past_groups.position.left, (groups-here c.requires.file_len_bound.1).left, c.requires.file_len_bound.2) in
+    omega (arith, c.count_groups-all.ensures.past_groups.position.left, (groups-here c.requires.file_len_bound.1).left, c.requires.file_len_bound.2) in
     let (some, indexed) = c.requires.t_le_largest_tolerance.1 in
     file-grows c.requires.file_len_bound.1 some c.args.t (c.count_groups-all.ensures.counted_groups some indexed) few
 
 pub returns : goal.returns
 returns c =
     let few : c.count_groups-all.result.next.index + 1 ≤ most_records =
-        omega (arith, c.count_groups-all.ensures.past_groups.position.left, (groups-here c.requires.file_len_bound.1).left, c.requires.file_len_bound.2) in
+    omega (arith, c.count_groups-all.ensures.past_groups.position.left, (groups-here c.requires.file_len_bound.1).left, c.requires.file_len_bound.2) in
     let none = c.none-none.ensures in
     let missing = c.count_groups-all.ensures.missing_on in
-    let within = within_more {b = most_records} (omega (arith, few)) (missing.few (within_more (omega arith) none.1)) in record { within_all = within; figures_of = λ tables e short.
+    let within = within_more {b = most_records} (omega (arith, few)) (missing.few (within_more (omega arith) none.1)) in record {
+      within_all = within;
+      figures_of = λ tables e short.
           let counted = c.count_groups-all.ensures.counted_groups tables e in
           let here = c.requires.file_len_bound.1 in
           let t = c.args.t in
@@ -52,4 +57,5 @@ returns c =
             few = within;
             findings = file-findings here tables t counted ∙ ap (λ n. counts_by_finding (file_findings tables n (content c.args.file.now))) short;
             verdicts = c.by_verdict-verdicts.ensures _ (file-grown here tables t counted) ∙ ap (λ n. counts_by_verdict (file_verdicts tables n (content c.args.file.now))) short;
-          } }
+          };
+    }

@@ -23,8 +23,8 @@ is_group-requires c = in-file c.loop-carriers.invariant
 pub count_group-one-requires : goal.count_group-one-requires
 count_group-one-requires c =
     let begun : Begun c.loop-carriers.n.index c.loop-carriers.carriers c.loop-carriers.levels =
-        let (some, indexed) = c.requires.t_le_largest_tolerance.1 in
-        begun-on ((done c.loop-carriers.invariant).1 some indexed) c.requires.file_len_bound.3 in
+    let (some, indexed) = c.requires.t_le_largest_tolerance.1 in
+    begun-on ((done c.loop-carriers.invariant).1 some indexed) c.requires.file_len_bound.3 in
     let inv = c.loop-carriers.invariant in
     let here = position inv in
     let is-grh = group-here inv (sym c.is_group.ensures ∙ c.loop-carriers-test.true) in
@@ -48,15 +48,15 @@ loop-carriers-preserved c =
 pub shape_of-carriers : goal.shape_of-carriers
 shape_of-carriers c =
     let begun : Begun c.loop-carriers.n.index c.loop-carriers.carriers c.loop-carriers.levels =
-        let (some, indexed) = c.requires.t_le_largest_tolerance.1 in
-        begun-on ((done c.loop-carriers.invariant).1 some indexed) c.requires.file_len_bound.3 in
+    let (some, indexed) = c.requires.t_le_largest_tolerance.1 in
+    begun-on ((done c.loop-carriers.invariant).1 some indexed) c.requires.file_len_bound.3 in
     (begun-long begun).0 ∙ sym (begun-long c.requires.file_len_bound.3).0
 
 pub shape_of-levels : goal.shape_of-levels
 shape_of-levels c =
     let begun : Begun c.loop-carriers.n.index c.loop-carriers.carriers c.loop-carriers.levels =
-        let (some, indexed) = c.requires.t_le_largest_tolerance.1 in
-        begun-on ((done c.loop-carriers.invariant).1 some indexed) c.requires.file_len_bound.3 in
+    let (some, indexed) = c.requires.t_le_largest_tolerance.1 in
+    begun-on ((done c.loop-carriers.invariant).1 some indexed) c.requires.file_len_bound.3 in
     (begun-long begun).1 ∙ sym (begun-long c.requires.file_len_bound.3).1
 
 pub returns : goal.returns

@@ -23,8 +23,8 @@ loop-p-init c =
 pub count_transaction-one-requires : goal.count_transaction-one-requires
 count_transaction-one-requires c =
     let begun : Begun c.loop-p.p.index c.loop-p.carriers c.loop-p.levels =
-        let (some, indexed) = c.requires.t_le_largest_tolerance.1 in
-        begun-on ((done c.loop-p.invariant).1 some indexed) c.requires.file_len_bound.3 in
+    let (some, indexed) = c.requires.t_le_largest_tolerance.1 in
+    begun-on ((done c.loop-p.invariant).1 some indexed) c.requires.file_len_bound.3 in
     let inv = c.loop-p.invariant in
     let here = position inv in
     record { file_len_bound = (c.requires.file_len_bound.0, here.here, header-here inv c.loop-p-test.true, rw here.left c.requires.file_len_bound.2, begun); t_le_largest_tolerance = c.requires.t_le_largest_tolerance }
@@ -32,15 +32,14 @@ count_transaction-one-requires c =
 pub with-m-requires : goal.with-m-requires
 with-m-requires c =
     let few : c.loop-p.p.index ≤ most_records =
-        omega (arith, (position c.loop-p.invariant).left, c.requires.file_len_bound.2) in
+    omega (arith, (position c.loop-p.invariant).left, c.requires.file_len_bound.2) in
     let ended : c.count_transaction-one.result.passed.index ≡ c.loop-p.p.index + suc (length (front_of (rest_at c.args.file.now c.loop-p.p.at)).details) =
-        let args = c.args in
-        let (some, indexed) = c.requires.t_le_largest_tolerance.1 in
-        (c.count_transaction-one.ensures.counted_transaction some indexed).end
-        ∙ ap (λ n. c.loop-p.p.index + n) (transaction-findings some args.t args.named.now _) in
+    let args = c.args in
+    let (some, indexed) = c.requires.t_le_largest_tolerance.1 in
+    (c.count_transaction-one.ensures.counted_transaction some indexed).end
+    ∙ ap (λ n. c.loop-p.p.index + n) (transaction-findings some args.t args.named.now _) in
     let few-then : c.count_transaction-one.result.passed.index ≤ most_records =
-        omega (arith, c.count_transaction-one.ensures.past_transaction.position.left, (position c.loop-p.invariant).left, c.requires.file_len_bound.2) in
-    (
+    omega (arith, c.count_transaction-one.ensures.past_transaction.position.left, (position c.loop-p.invariant).left, c.requires.file_len_bound.2) in (
       within_more few ((done c.loop-p.invariant).0.few c.requires.file_len_bound.4),
       up_more _ most_records (omega (arith, ended, few-then)) c.count_transaction-one.ensures.total_value.1,
     )
@@ -52,10 +51,10 @@ loop-p-smaller c =
 pub loop-p-preserved : goal.loop-p-preserved
 loop-p-preserved c =
     let ended : c.count_transaction-one.result.passed.index ≡ c.loop-p.p.index + suc (length (front_of (rest_at c.args.file.now c.loop-p.p.at)).details) =
-        let args = c.args in
-        let (some, indexed) = c.requires.t_le_largest_tolerance.1 in
-        (c.count_transaction-one.ensures.counted_transaction some indexed).end
-        ∙ ap (λ n. c.loop-p.p.index + n) (transaction-findings some args.t args.named.now _) in
+    let args = c.args in
+    let (some, indexed) = c.requires.t_le_largest_tolerance.1 in
+    (c.count_transaction-one.ensures.counted_transaction some indexed).end
+    ∙ ap (λ n. c.loop-p.p.index + n) (transaction-findings some args.t args.named.now _) in
     let with = c.with-m in
     let inv = c.loop-p.invariant in
     let args = c.args in
@@ -70,15 +69,15 @@ loop-p-preserved c =
 pub shape_of-carriers : goal.shape_of-carriers
 shape_of-carriers c =
     let begun : Begun c.loop-p.p.index c.loop-p.carriers c.loop-p.levels =
-        let (some, indexed) = c.requires.t_le_largest_tolerance.1 in
-        begun-on ((done c.loop-p.invariant).1 some indexed) c.requires.file_len_bound.3 in
+    let (some, indexed) = c.requires.t_le_largest_tolerance.1 in
+    begun-on ((done c.loop-p.invariant).1 some indexed) c.requires.file_len_bound.3 in
     (begun-long begun).0 ∙ sym (begun-long c.requires.file_len_bound.3).0
 
 pub shape_of-levels : goal.shape_of-levels
 shape_of-levels c =
     let begun : Begun c.loop-p.p.index c.loop-p.carriers c.loop-p.levels =
-        let (some, indexed) = c.requires.t_le_largest_tolerance.1 in
-        begun-on ((done c.loop-p.invariant).1 some indexed) c.requires.file_len_bound.3 in
+    let (some, indexed) = c.requires.t_le_largest_tolerance.1 in
+    begun-on ((done c.loop-p.invariant).1 some indexed) c.requires.file_len_bound.3 in
     (begun-long begun).1 ∙ sym (begun-long c.requires.file_len_bound.3).1
 
 pub returns : goal.returns

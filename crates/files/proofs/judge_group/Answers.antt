@@ -16,39 +16,39 @@ use Rattle.files.proofs.judge_group.Goals as goal
 pub slice_bounds-opening-end : goal.slice_bounds-opening-end
 slice_bounds-opening-end c =
     let position : Position c.args.file.now (c.args.index + length (rest_at c.args.file.now c.args.at)) c.args.at c.args.index grt (rest_at c.args.file.now c.args.at) =
-        record { here = c.requires.file_len_bound.1; left = refl } in
+    record { here = c.requires.file_len_bound.1; left = refl } in
     omega (arith, opening-ends position c.requires.file_len_bound.2)
 
 pub settle_control-requires : goal.settle_control-requires
 settle_control-requires c =
     let position : Position c.args.file.now (c.args.index + length (rest_at c.args.file.now c.args.at)) c.args.at c.args.index grt (rest_at c.args.file.now c.args.at) =
-        record { here = c.requires.file_len_bound.1; left = refl } in
+    record { here = c.requires.file_len_bound.1; left = refl } in
     entry-room position refl c.requires.file_len_bound.3
 
 pub judge_transactions-p-requires : goal.judge_transactions-p-requires
 judge_transactions-p-requires c =
     let position : Position c.args.file.now (c.args.index + length (rest_at c.args.file.now c.args.at)) c.args.at c.args.index grt (rest_at c.args.file.now c.args.at) =
-        record { here = c.requires.file_len_bound.1; left = refl } in
+    record { here = c.requires.file_len_bound.1; left = refl } in
     let here = position-after group-header position refl c.requires.file_len_bound.2 _ refl in
     record { file_len_bound = (c.requires.file_len_bound.0, here.here, rw here.left (room-kept c.settle_control.ensures c.requires.file_len_bound.3)); t_le_largest_tolerance = c.requires.t_le_largest_tolerance }
 
 pub settle_control-requires-2 : goal.settle_control-requires-2
 settle_control-requires-2 c =
     let position : Position c.args.file.now (c.args.index + length (rest_at c.args.file.now c.args.at)) c.args.at c.args.index grt (rest_at c.args.file.now c.args.at) =
-        record { here = c.requires.file_len_bound.1; left = refl } in
+    record { here = c.requires.file_len_bound.1; left = refl } in
     let past : PastTransactions c.field-named.result.now c.args.file.now (c.args.index + length (rest_at c.args.file.now c.args.at)) (tail_of (rest_at c.args.file.now c.args.at)) c.judge_transactions-p.result =
-        past-inside position c.requires.file_len_bound.2 _ refl c.judge_transactions-p.ensures.past_transactions in
+    past-inside position c.requires.file_len_bound.2 _ refl c.judge_transactions-p.ensures.past_transactions in
     let some = c.requires.t_le_largest_tolerance.1 in
     let written = filled-then c.settle_control.ensures (c.judge_transactions-p.ensures.filled_transactions some.0 some.1) in
-    entry-room (past).position refl (room-kept written c.requires.file_len_bound.3)
+    entry-room past.position refl (room-kept written c.requires.file_len_bound.3)
 
 pub overflow_add-e : goal.overflow_add-e
 overflow_add-e c =
     let position : Position c.args.file.now (c.args.index + length (rest_at c.args.file.now c.args.at)) c.args.at c.args.index grt (rest_at c.args.file.now c.args.at) =
-        record { here = c.requires.file_len_bound.1; left = refl } in
+    record { here = c.requires.file_len_bound.1; left = refl } in
     let past : PastTransactions c.field-named.result.now c.args.file.now (c.args.index + length (rest_at c.args.file.now c.args.at)) (tail_of (rest_at c.args.file.now c.args.at)) c.judge_transactions-p.result =
-        past-inside position c.requires.file_len_bound.2 _ refl c.judge_transactions-p.ensures.past_transactions in
-    omega (arith, (past).position.left, c.requires.file_len_bound.3.few)
+    past-inside position c.requires.file_len_bound.2 _ refl c.judge_transactions-p.ensures.past_transactions in
+    omega (arith, past.position.left, c.requires.file_len_bound.3.few)
 
 -- ---- its verdicts raised
 pub slice_bounds-raise-count : goal.slice_bounds-raise-count
@@ -69,30 +69,33 @@ slice_bounds-raise-end c =
 pub overflow_add-result : goal.overflow_add-result
 overflow_add-result c =
     let position : Position c.args.file.now (c.args.index + length (rest_at c.args.file.now c.args.at)) c.args.at c.args.index grt (rest_at c.args.file.now c.args.at) =
-        record { here = c.requires.file_len_bound.1; left = refl } in
+    record { here = c.requires.file_len_bound.1; left = refl } in
     let past : PastTransactions c.field-named.result.now c.args.file.now (c.args.index + length (rest_at c.args.file.now c.args.at)) (tail_of (rest_at c.args.file.now c.args.at)) c.judge_transactions-p.result =
-        past-inside position c.requires.file_len_bound.2 _ refl c.judge_transactions-p.ensures.past_transactions in
+    past-inside position c.requires.file_len_bound.2 _ refl c.judge_transactions-p.ensures.past_transactions in
     omega (arith, closing-ends position c.requires.file_len_bound.2 past, c.requires.file_len_bound.0)
 
 pub overflow_add-result-2 : goal.overflow_add-result-2
 overflow_add-result-2 c =
     let position : Position c.args.file.now (c.args.index + length (rest_at c.args.file.now c.args.at)) c.args.at c.args.index grt (rest_at c.args.file.now c.args.at) =
-        record { here = c.requires.file_len_bound.1; left = refl } in
+    record { here = c.requires.file_len_bound.1; left = refl } in
     let past : PastTransactions c.field-named.result.now c.args.file.now (c.args.index + length (rest_at c.args.file.now c.args.at)) (tail_of (rest_at c.args.file.now c.args.at)) c.judge_transactions-p.result =
-        past-inside position c.requires.file_len_bound.2 _ refl c.judge_transactions-p.ensures.past_transactions in
+    past-inside position c.requires.file_len_bound.2 _ refl c.judge_transactions-p.ensures.past_transactions in
     omega (arith, closing-ends position c.requires.file_len_bound.2 past, c.requires.file_len_bound.0)
 
 pub returns : goal.returns
 returns c =
     let position : Position c.args.file.now (c.args.index + length (rest_at c.args.file.now c.args.at)) c.args.at c.args.index grt (rest_at c.args.file.now c.args.at) =
-        record { here = c.requires.file_len_bound.1; left = refl } in
+    record { here = c.requires.file_len_bound.1; left = refl } in
     let past : PastTransactions c.field-named.result.now c.args.file.now (c.args.index + length (rest_at c.args.file.now c.args.at)) (tail_of (rest_at c.args.file.now c.args.at)) c.judge_transactions-p.result =
-        past-inside position c.requires.file_len_bound.2 _ refl c.judge_transactions-p.ensures.past_transactions in
+    past-inside position c.requires.file_len_bound.2 _ refl c.judge_transactions-p.ensures.past_transactions in
     let is-grh = c.requires.file_len_bound.2 in
-    let named = c.field-named.ensures.result_value ∙ ap named_type (opening-lent position is-grh _ refl) in record { past_group = past-group position is-grh past; filled_group = λ tables e. filled-group tables c.args.t (rest_at c.args.file.now c.args.at) c.judge_transactions-p.result
+    let named = c.field-named.ensures.result_value ∙ ap named_type (opening-lent position is-grh _ refl) in record {
+      past_group = past-group position is-grh past;
+      filled_group = λ tables e. filled-group tables c.args.t (rest_at c.args.file.now c.args.at) c.judge_transactions-p.result
           named c.settle_control.ensures
           (rw (left_after group-header position refl is-grh _ refl) at (c.judge_transactions-p.ensures.filled_transactions tables e))
-          c.settle_control-2.ensures (past).stray c.least-least.ensures c.raise.ensures }
+          c.settle_control-2.ensures past.stray c.least-least.ensures c.raise.ensures;
+    }
 
 pub shape_of-verdicts : goal.shape_of-verdicts
 shape_of-verdicts c =

@@ -21,8 +21,8 @@ is_group-requires c = in-file c.loop-verdicts.invariant
 pub judge_group-n-requires : goal.judge_group-n-requires
 judge_group-n-requires c =
     let room : Room (c.args.first + length (rest_at c.args.file.now c.args.start)) (length c.loop-verdicts.verdicts) (length c.loop-verdicts.findings) =
-        let some = c.requires.t_le_largest_tolerance.1 in
-        room-kept (done c.loop-verdicts.invariant some.0 some.1) c.requires.file_len_bound.2 in
+    let some = c.requires.t_le_largest_tolerance.1 in
+    room-kept (done c.loop-verdicts.invariant some.0 some.1) c.requires.file_len_bound.2 in
     let here = position c.loop-verdicts.invariant in
     let is-grh = group-here c.loop-verdicts.invariant (sym c.is_group.ensures ∙ c.loop-verdicts-test.true) in
     record { file_len_bound = (c.requires.file_len_bound.0, here.here, is-grh, rw here.left room); t_le_largest_tolerance = c.requires.t_le_largest_tolerance }

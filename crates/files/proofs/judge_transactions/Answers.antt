@@ -19,8 +19,8 @@ loop-p-init c =
 pub judge_transaction-q-requires : goal.judge_transaction-q-requires
 judge_transaction-q-requires c =
     let room : Room (c.args.first + length (rest_at c.args.file.now c.args.start)) (length c.loop-p.verdicts) (length c.loop-p.findings) =
-        let some = c.requires.t_le_largest_tolerance.1 in
-        room-kept (done c.loop-p.invariant some.0 some.1) c.requires.file_len_bound.2 in
+    let some = c.requires.t_le_largest_tolerance.1 in
+    room-kept (done c.loop-p.invariant some.0 some.1) c.requires.file_len_bound.2 in
     let inv = c.loop-p.invariant in
     let here = position inv in
     record { file_len_bound = (c.requires.file_len_bound.0, here.here, header-here inv c.loop-p-test.true, rw here.left room); t_le_largest_tolerance = c.requires.t_le_largest_tolerance }

@@ -1,6 +1,5 @@
 -- `kinds::search` meets its contract. The loop's invariant: the rows from `i` on decide.
 -- Assumes nothing.
-use Prim.Native.Nat.{◌-◌}
 use mathlib.Core.Path.{◌≡◌, refl, sym, ◌∙◌}
 use lib.ListN.{length}
 use native.Mathlib.Omega.{arith}

@@ -1,5 +1,4 @@
 -- `lines::block_text` meets its contract: good says whether the k bytes from at on are text.
-use Prim.Native.Nat.{◌-◌}
 use native.Mathlib.Omega.{arith}
 use mathlib.Core.Path.{◌≡◌, refl}
 use lib.ListN.{length-drop}

@@ -1,5 +1,4 @@
 -- `lines::short_text` meets its contract: good says whether the bytes before i are text.
-use Prim.Native.Nat.{◌-◌}
 use native.Mathlib.Omega.{arith}
 use mathlib.Core.Path.{refl, ap, ◌∙◌}
 use lib.Seq.{take_all}

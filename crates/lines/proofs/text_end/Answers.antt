@@ -1,5 +1,4 @@
 -- `lines::text_end` meets its contract: the text from i on ends where that from at on does.
-use Prim.Native.Nat.{◌-◌}
 use mathlib.Core.Path.{refl, sym, ◌∙◌}
 use borrow.Author.Tests.{not-true, not-false}
 use Rattle.lines.proofs.Laws.{end_on, end-here, end-last}

@@ -6,10 +6,16 @@ use Rattle.lister.proofs.put_answer.Goals as goal
 
 pub returns-then-told : goal.returns-then-told
 returns-then-told c =
-    record { put = rw (told-passed (answer_of c.args.a) c.told-told.result c.told-told.ensures.value c.if-told.true)
-          c.put_passed.ensures.put; upper_bound = search rules }
+    record {
+      put = rw (told-passed (answer_of c.args.a) c.told-told.result c.told-told.ensures.value c.if-told.true)
+          c.put_passed.ensures.put;
+      upper_bound = search rules;
+    }
 
 pub returns-else-told : goal.returns-else-told
 returns-else-told c =
-    record { put = rw (told-refused (answer_of c.args.a) c.told-told.result c.told-told.ensures.value c.if-told.false)
-          c.put_refused.ensures.put; upper_bound = search rules }
+    record {
+      put = rw (told-refused (answer_of c.args.a) c.told-told.result c.told-told.ensures.value c.if-told.false)
+          c.put_refused.ensures.put;
+      upper_bound = search rules;
+    }

@@ -7,12 +7,11 @@ use borrow.Author.Rules.{rules}
 use Rattle.lister.proofs.put_checked.Goals as goal
 
 pub put_outcome-requires : goal.put_outcome-requires
-put_outcome-requires c =
-    (
-      can-list listing_tables largest_tolerance c.args.file.now c.args.verdicts.now c.args.findings.now
-          (answer_of c.check-answer.result) _ _ c.check-answer.ensures,
-      search rules,
-    )
+put_outcome-requires c = (
+  can-list listing_tables largest_tolerance c.args.file.now c.args.verdicts.now c.args.findings.now
+      (answer_of c.check-answer.result) _ _ c.check-answer.ensures,
+  search rules,
+)
 
 pub returns : goal.returns
 returns c =

@@ -7,5 +7,8 @@ use Rattle.lister.proofs.put_line.Goals as goal
 pub returns : goal.returns
 returns c =
     let g = c.args in
-    let word = c.load_eight-set.ensures.value in record { put = line-put g.file.now g.at g.number g.verdicts.now g.findings.now (8 * (g.number + 1)) c.load_eight-set.result
-          c.wide.result refl word c.wide.ensures.value c.put_record.ensures.put; upper_bound = c.put_record.ensures.upper_bound }
+    let word = c.load_eight-set.ensures.value in record {
+      put = line-put g.file.now g.at g.number g.verdicts.now g.findings.now (8 * (g.number + 1)) c.load_eight-set.result
+          c.wide.result refl word c.wide.ensures.value c.put_record.ensures.put;
+      upper_bound = c.put_record.ensures.upper_bound;
+    }

@@ -6,8 +6,11 @@ use Rattle.lister.proofs.put_lowest.Goals as goal
 
 pub returns-then-count-eq0 : goal.returns-then-count-eq0
 returns-then-count-eq0 c =
-    record { put = rw (dash (places 64 c.args.set) c.count-count.result c.count-count.ensures c.if-count-eq0.true)
-          c.put_word.ensures.put; upper_bound = search rules }
+    record {
+      put = rw (dash (places 64 c.args.set) c.count-count.result c.count-count.ensures c.if-count-eq0.true)
+          c.put_word.ensures.put;
+      upper_bound = search rules;
+    }
 
 pub returns : goal.returns
 returns c =

@@ -5,8 +5,10 @@ use Rattle.lister.proofs.put_passed.Goals as goal
 
 pub returns : goal.returns
 returns c =
-    record { put = passed-put c.args.groups c.args.transactions c.args.records c.put_word-a.ensures.put c.put_figure-b.ensures.put
-          c.put_word-c.ensures.put c.put_figure-d.ensures.put c.put_word-e.ensures.put c.put_figure.ensures.put; upper_bound = omega (
+    record {
+      put = passed-put c.args.groups c.args.transactions c.args.records c.put_word-a.ensures.put c.put_figure-b.ensures.put
+          c.put_word-c.ensures.put c.put_figure-d.ensures.put c.put_word-e.ensures.put c.put_figure.ensures.put;
+      upper_bound = omega (
         arith,
         c.put_word-a.ensures.value,
         c.put_figure-b.ensures.upper_bound,
@@ -14,4 +16,5 @@ returns c =
         c.put_figure-d.ensures.upper_bound,
         c.put_word-e.ensures.value,
         c.put_figure.ensures.upper_bound,
-      ) }
+      );
+    }

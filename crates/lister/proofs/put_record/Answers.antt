@@ -6,10 +6,12 @@ use Rattle.lister.proofs.put_record.Goals as goal
 
 pub returns : goal.returns
 returns c =
-    record { put = record-put c.args.number c.args.kind.now c.args.verdict c.count.result
+    record {
+      put = record-put c.args.number c.args.kind.now c.args.verdict c.count.result
           (places 64 c.args.set) c.requires.0 c.count.ensures
           c.put_figure-a.ensures.put c.put_word-b.ensures.put c.put_figure-c.ensures.put c.put_figure-d.ensures.put
-          c.put_lowest.ensures.put; upper_bound = omega (
+          c.put_lowest.ensures.put;
+      upper_bound = omega (
         arith,
         c.requires.0,
         c.put_figure-a.ensures.upper_bound,
@@ -17,4 +19,5 @@ returns c =
         c.put_figure-c.ensures.upper_bound,
         c.put_figure-d.ensures.upper_bound,
         c.put_lowest.ensures.upper_bound,
-      ) }
+      );
+    }

@@ -38,79 +38,82 @@ confirmed-shape-requires c =
     let rows = c.table-rows.result in
     let file = c.args.file.now in
     let i = c.loop-s.s.at in
-    let three = three-bytes c.loop-s.invariant c.loop-s-test.true in record { in_bounds = rw (to_end file i, length-drop i file) (omega (arith, three)); hinted_value = λ t e. hinted rows c.table-rows.ensures t c.hint-k.result
-          (in_table rows c.table-rows.ensures c.hint-k.result c.hint-k.ensures) _ e }
+    let three = three-bytes c.loop-s.invariant c.loop-s-test.true in record {
+      in_bounds = rw (to_end file i, length-drop i file) (omega (arith, three));
+      hinted_value = λ t e. hinted rows c.table-rows.ensures t c.hint-k.result
+          (in_table rows c.table-rows.ensures c.hint-k.result c.hint-k.ensures) _ e;
+    }
 
 pub overflow_add-end : goal.overflow_add-end
 overflow_add-end c =
-    let its : c.confirmed-shape.result ≡ shape_of (row_for (take 3 (drop c.loop-s.s.at (c).args.file.now))) =
-        c.confirmed-shape.ensures ∙ ap (λ (r : Bytes). shape_of (row_for (take 3 r))) (to_end c.args.file.now c.loop-s.s.at) in
+    let its : c.confirmed-shape.result ≡ shape_of (row_for (take 3 (drop c.loop-s.s.at c.args.file.now))) =
+    c.confirmed-shape.ensures ∙ ap (λ (r : Bytes). shape_of (row_for (take 3 r))) (to_end c.args.file.now c.loop-s.s.at) in
     let end : c.loop-s.s.at + c.size.result + 2 ≤ length c.args.file.now =
-        omega (arith, c.size.ensures, ends c.loop-s.invariant c.loop-s-test.true its) in
+    omega (arith, c.size.ensures, ends c.loop-s.invariant c.loop-s-test.true its) in
     omega (arith, end)
 
 pub overflow_add-end-in-loop-s : goal.overflow_add-end-in-loop-s
 overflow_add-end-in-loop-s c =
-    let its : c.confirmed-shape.result ≡ shape_of (row_for (take 3 (drop c.loop-s.s.at (c).args.file.now))) =
-        c.confirmed-shape.ensures ∙ ap (λ (r : Bytes). shape_of (row_for (take 3 r))) (to_end c.args.file.now c.loop-s.s.at) in
+    let its : c.confirmed-shape.result ≡ shape_of (row_for (take 3 (drop c.loop-s.s.at c.args.file.now))) =
+    c.confirmed-shape.ensures ∙ ap (λ (r : Bytes). shape_of (row_for (take 3 r))) (to_end c.args.file.now c.loop-s.s.at) in
     let end : c.loop-s.s.at + c.size.result + 2 ≤ length c.args.file.now =
-        omega (arith, c.size.ensures, ends c.loop-s.invariant c.loop-s-test.true its) in
+    omega (arith, c.size.ensures, ends c.loop-s.invariant c.loop-s-test.true its) in
     omega (arith, end)
 
 pub slice_bounds-number_line-count : goal.slice_bounds-number_line-count
 slice_bounds-number_line-count c =
-    let its : c.confirmed-shape.result ≡ shape_of (row_for (take 3 (drop c.loop-s.s.at (c).args.file.now))) =
-        c.confirmed-shape.ensures ∙ ap (λ (r : Bytes). shape_of (row_for (take 3 r))) (to_end c.args.file.now c.loop-s.s.at) in
+    let its : c.confirmed-shape.result ≡ shape_of (row_for (take 3 (drop c.loop-s.s.at c.args.file.now))) =
+    c.confirmed-shape.ensures ∙ ap (λ (r : Bytes). shape_of (row_for (take 3 r))) (to_end c.args.file.now c.loop-s.s.at) in
     let end : c.loop-s.s.at + c.size.result + 2 ≤ length c.args.file.now =
-        omega (arith, c.size.ensures, ends c.loop-s.invariant c.loop-s-test.true its) in
+    omega (arith, c.size.ensures, ends c.loop-s.invariant c.loop-s-test.true its) in
     omega (arith, end)
 
 pub slice_bounds-number_line-start : goal.slice_bounds-number_line-start
 slice_bounds-number_line-start c =
-    let its : c.confirmed-shape.result ≡ shape_of (row_for (take 3 (drop c.loop-s.s.at (c).args.file.now))) =
-        c.confirmed-shape.ensures ∙ ap (λ (r : Bytes). shape_of (row_for (take 3 r))) (to_end c.args.file.now c.loop-s.s.at) in
+    let its : c.confirmed-shape.result ≡ shape_of (row_for (take 3 (drop c.loop-s.s.at c.args.file.now))) =
+    c.confirmed-shape.ensures ∙ ap (λ (r : Bytes). shape_of (row_for (take 3 r))) (to_end c.args.file.now c.loop-s.s.at) in
     let end : c.loop-s.s.at + c.size.result + 2 ≤ length c.args.file.now =
-        omega (arith, c.size.ensures, ends c.loop-s.invariant c.loop-s-test.true its) in
+    omega (arith, c.size.ensures, ends c.loop-s.invariant c.loop-s-test.true its) in
     omega (arith, end)
 
 pub slice_bounds-number_line-end : goal.slice_bounds-number_line-end
 slice_bounds-number_line-end c =
-    let its : c.confirmed-shape.result ≡ shape_of (row_for (take 3 (drop c.loop-s.s.at (c).args.file.now))) =
-        c.confirmed-shape.ensures ∙ ap (λ (r : Bytes). shape_of (row_for (take 3 r))) (to_end c.args.file.now c.loop-s.s.at) in
+    let its : c.confirmed-shape.result ≡ shape_of (row_for (take 3 (drop c.loop-s.s.at c.args.file.now))) =
+    c.confirmed-shape.ensures ∙ ap (λ (r : Bytes). shape_of (row_for (take 3 r))) (to_end c.args.file.now c.loop-s.s.at) in
     let end : c.loop-s.s.at + c.size.result + 2 ≤ length c.args.file.now =
-        omega (arith, c.size.ensures, ends c.loop-s.invariant c.loop-s-test.true its) in
+    omega (arith, c.size.ensures, ends c.loop-s.invariant c.loop-s-test.true its) in
     omega (arith, end)
 
 pub slice_bounds-number_line-count-in-loop-s : goal.slice_bounds-number_line-count-in-loop-s
 slice_bounds-number_line-count-in-loop-s c =
-    let its : c.confirmed-shape.result ≡ shape_of (row_for (take 3 (drop c.loop-s.s.at (c).args.file.now))) =
-        c.confirmed-shape.ensures ∙ ap (λ (r : Bytes). shape_of (row_for (take 3 r))) (to_end c.args.file.now c.loop-s.s.at) in
+    let its : c.confirmed-shape.result ≡ shape_of (row_for (take 3 (drop c.loop-s.s.at c.args.file.now))) =
+    c.confirmed-shape.ensures ∙ ap (λ (r : Bytes). shape_of (row_for (take 3 r))) (to_end c.args.file.now c.loop-s.s.at) in
     let end : c.loop-s.s.at + c.size.result + 2 ≤ length c.args.file.now =
-        omega (arith, c.size.ensures, ends c.loop-s.invariant c.loop-s-test.true its) in
+    omega (arith, c.size.ensures, ends c.loop-s.invariant c.loop-s-test.true its) in
     omega (arith, end)
 
 pub slice_bounds-number_line-start-in-loop-s : goal.slice_bounds-number_line-start-in-loop-s
 slice_bounds-number_line-start-in-loop-s c =
-    let its : c.confirmed-shape.result ≡ shape_of (row_for (take 3 (drop c.loop-s.s.at (c).args.file.now))) =
-        c.confirmed-shape.ensures ∙ ap (λ (r : Bytes). shape_of (row_for (take 3 r))) (to_end c.args.file.now c.loop-s.s.at) in
+    let its : c.confirmed-shape.result ≡ shape_of (row_for (take 3 (drop c.loop-s.s.at c.args.file.now))) =
+    c.confirmed-shape.ensures ∙ ap (λ (r : Bytes). shape_of (row_for (take 3 r))) (to_end c.args.file.now c.loop-s.s.at) in
     let end : c.loop-s.s.at + c.size.result + 2 ≤ length c.args.file.now =
-        omega (arith, c.size.ensures, ends c.loop-s.invariant c.loop-s-test.true its) in
+    omega (arith, c.size.ensures, ends c.loop-s.invariant c.loop-s-test.true its) in
     omega (arith, end)
 
 pub slice_bounds-number_line-end-in-loop-s : goal.slice_bounds-number_line-end-in-loop-s
 slice_bounds-number_line-end-in-loop-s c =
-    let its : c.confirmed-shape.result ≡ shape_of (row_for (take 3 (drop c.loop-s.s.at (c).args.file.now))) =
-        c.confirmed-shape.ensures ∙ ap (λ (r : Bytes). shape_of (row_for (take 3 r))) (to_end c.args.file.now c.loop-s.s.at) in
+    let its : c.confirmed-shape.result ≡ shape_of (row_for (take 3 (drop c.loop-s.s.at c.args.file.now))) =
+    c.confirmed-shape.ensures ∙ ap (λ (r : Bytes). shape_of (row_for (take 3 r))) (to_end c.args.file.now c.loop-s.s.at) in
     let end : c.loop-s.s.at + c.size.result + 2 ≤ length c.args.file.now =
-        omega (arith, c.size.ensures, ends c.loop-s.invariant c.loop-s-test.true its) in
+    omega (arith, c.size.ensures, ends c.loop-s.invariant c.loop-s-test.true its) in
     omega (arith, end, c.requires.1, c.loop-s.invariant.same)
 
 pub number_line-requires : goal.number_line-requires
 number_line-requires c =
-    let its : c.confirmed-shape.result ≡ shape_of (row_for (take 3 (drop c.loop-s.s.at (c).args.file.now))) =
-        c.confirmed-shape.ensures ∙ ap (λ (r : Bytes). shape_of (row_for (take 3 r))) (to_end c.args.file.now c.loop-s.s.at) in
+    let its : c.confirmed-shape.result ≡ shape_of (row_for (take 3 (drop c.loop-s.s.at c.args.file.now))) =
+    c.confirmed-shape.ensures ∙ ap (λ (r : Bytes). shape_of (row_for (take 3 r))) (to_end c.args.file.now c.loop-s.s.at) in
     let end : c.loop-s.s.at + c.size.result + 2 ≤ length c.args.file.now =
-        omega (arith, c.size.ensures, ends c.loop-s.invariant c.loop-s-test.true its) in
+    omega (arith, c.size.ensures, ends c.loop-s.invariant c.loop-s-test.true its) in
     let i = c.loop-s.s.at in
     let F = c.loop-s.invariant in
     let b = F.bounded in
@@ -127,18 +130,18 @@ after_record-s-requires c =
 
 pub loop-s-smaller : goal.loop-s-smaller
 loop-s-smaller c =
-    let its : c.confirmed-shape.result ≡ shape_of (row_for (take 3 (drop c.loop-s.s.at (c).args.file.now))) =
-        c.confirmed-shape.ensures ∙ ap (λ (r : Bytes). shape_of (row_for (take 3 r))) (to_end c.args.file.now c.loop-s.s.at) in
+    let its : c.confirmed-shape.result ≡ shape_of (row_for (take 3 (drop c.loop-s.s.at c.args.file.now))) =
+    c.confirmed-shape.ensures ∙ ap (λ (r : Bytes). shape_of (row_for (take 3 r))) (to_end c.args.file.now c.loop-s.s.at) in
     let end : c.loop-s.s.at + c.size.result + 2 ≤ length c.args.file.now =
-        omega (arith, c.size.ensures, ends c.loop-s.invariant c.loop-s-test.true its) in
+    omega (arith, c.size.ensures, ends c.loop-s.invariant c.loop-s-test.true its) in
     omega (arith, end, c.after_record-s.ensures.at, c.size.ensures)
 
 pub loop-s-preserved : goal.loop-s-preserved
 loop-s-preserved c =
-    let its : c.confirmed-shape.result ≡ shape_of (row_for (take 3 (drop c.loop-s.s.at (c).args.file.now))) =
-        c.confirmed-shape.ensures ∙ ap (λ (r : Bytes). shape_of (row_for (take 3 r))) (to_end c.args.file.now c.loop-s.s.at) in
+    let its : c.confirmed-shape.result ≡ shape_of (row_for (take 3 (drop c.loop-s.s.at c.args.file.now))) =
+    c.confirmed-shape.ensures ∙ ap (λ (r : Bytes). shape_of (row_for (take 3 r))) (to_end c.args.file.now c.loop-s.s.at) in
     let end : c.loop-s.s.at + c.size.result + 2 ≤ length c.args.file.now =
-        omega (arith, c.size.ensures, ends c.loop-s.invariant c.loop-s-test.true its) in
+    omega (arith, c.size.ensures, ends c.loop-s.invariant c.loop-s-test.true its) in
     let i = c.loop-s.s.at in
     let F = c.loop-s.invariant in
     let e = i + c.size.result + 2 in

@@ -13,12 +13,11 @@ returns-then-out-file c = let told = short-so c.args.file.now c.args.out.now _ c
     (sym c.passes.ensures ∙ not-false _ c.if-not-passes.false-raw) c.if-out-file.true in record { result_value = told.0; out_after = told.1 }
 
 pub fill-requires : goal.fill-requires
-fill-requires c =
-    (
-      sized c.args.file.now c.args.out.now _ c.check_places-answer.ensures
-          (sym c.passes.ensures ∙ not-false _ c.if-not-passes.false-raw),
-      c.if-out-file.false,
-    )
+fill-requires c = (
+  sized c.args.file.now c.args.out.now _ c.check_places-answer.ensures
+      (sym c.passes.ensures ∙ not-false _ c.if-not-passes.false-raw),
+  c.if-out-file.false,
+)
 
 pub returns : goal.returns
 returns c = let told = filled-so c.args.file.now c.args.out.now _ c.check_places-answer.ensures

@@ -18,28 +18,28 @@ use Rattle.parties.proofs.claim_at.Goals as goal
 pub slice_bounds-record-end : goal.slice_bounds-record-end
 slice_bounds-record-end c =
     let end : c.args.at + c.size.result ≡ c.args.at + c.args.row.length =
-        ap (λ n. c.args.at + n) c.size.ensures in
+    ap (λ n. c.args.at + n) c.size.ensures in
     omega (arith, end, ends c.requires.0.here c.requires.1.0)
 
 pub code-requires : goal.code-requires
 code-requires c =
     let end : c.args.at + c.size.result ≡ c.args.at + c.args.row.length =
-        ap (λ n. c.args.at + n) c.size.ensures in
+    ap (λ n. c.args.at + n) c.size.ensures in
     let record-lent : take (c.args.at + c.size.result - c.args.at) (drop c.args.at c.args.file.now) ≡ first_record (rest_at c.args.file.now c.args.at) =
-        lent c.requires.0.here c.requires.1.0 _ end in
+    lent c.requires.0.here c.requires.1.0 _ end in
     let pre = c.requires in
     rw record-lent (claim-record pre.0 pre.1.0 pre.1.2)
 
 pub entry-claim-requires : goal.entry-claim-requires
 entry-claim-requires c =
     let end : c.args.at + c.size.result ≡ c.args.at + c.args.row.length =
-        ap (λ n. c.args.at + n) c.size.ensures in
+    ap (λ n. c.args.at + n) c.size.ensures in
     let record-lent : take (c.args.at + c.size.result - c.args.at) (drop c.args.at c.args.file.now) ≡ first_record (rest_at c.args.file.now c.args.at) =
-        lent c.requires.0.here c.requires.1.0 _ end in
+    lent c.requires.0.here c.requires.1.0 _ end in
     let placed : c.position-place.result ≡ place_of (claimed (first_record (rest_at c.args.file.now c.args.at))) (codes_of (territories_in c.args.table.now)) =
-        c.position-place.ensures
-        ∙ ap (λ (b : Bytes). place_of b (codes_of (territories_in c.args.table.now)))
-        (c.code.ensures.result_value ∙ ap claimed record-lent) in
+    c.position-place.ensures
+    ∙ ap (λ (b : Bytes). place_of b (codes_of (territories_in c.args.table.now)))
+    (c.code.ensures.result_value ∙ ap claimed record-lent) in
     let pre = c.requires in
     let table = c.args.table.now in
     let few = (right-table table pre.0.right).few in
@@ -52,20 +52,20 @@ entry-claim-requires c =
 pub overflow_add-result : goal.overflow_add-result
 overflow_add-result c =
     let end : c.args.at + c.size.result ≡ c.args.at + c.args.row.length =
-        ap (λ n. c.args.at + n) c.size.ensures in
+    ap (λ n. c.args.at + n) c.size.ensures in
     let pre = c.requires in
     omega (arith, end, ends pre.0.here pre.1.0, pre.0.short)
 
 pub returns : goal.returns
 returns c =
     let end : c.args.at + c.size.result ≡ c.args.at + c.args.row.length =
-        ap (λ n. c.args.at + n) c.size.ensures in
+    ap (λ n. c.args.at + n) c.size.ensures in
     let record-lent : take (c.args.at + c.size.result - c.args.at) (drop c.args.at c.args.file.now) ≡ first_record (rest_at c.args.file.now c.args.at) =
-        lent c.requires.0.here c.requires.1.0 _ end in
+    lent c.requires.0.here c.requires.1.0 _ end in
     let placed : c.position-place.result ≡ place_of (claimed (first_record (rest_at c.args.file.now c.args.at))) (codes_of (territories_in c.args.table.now)) =
-        c.position-place.ensures
-        ∙ ap (λ (b : Bytes). place_of b (codes_of (territories_in c.args.table.now)))
-        (c.code.ensures.result_value ∙ ap claimed record-lent) in
+    c.position-place.ensures
+    ∙ ap (λ (b : Bytes). place_of b (codes_of (territories_in c.args.table.now)))
+    (c.code.ensures.result_value ∙ ap claimed record-lent) in
     let pre = c.requires in
     let entry = rw record-lent at c.entry-claim.ensures in
     ahead-claim pre.0 pre.1.0 pre.1.1 _ (ap (λ n. n + 2) end) pre.1.2 _ (entry _ placed c.count.ensures)

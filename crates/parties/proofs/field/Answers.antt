@@ -20,6 +20,9 @@ field-requires c =
 pub returns : goal.returns
 returns c =
     let args = c.args in
-    let record-now = args.«record».now in record { result_value = c.field.ensures.result_value
+    let record-now = args.«record».now in record {
+      result_value = c.field.ensures.result_value
           ∙ ap (λ n. field_of (n + args.on) args.size record-now) c.index.ensures
-          ∙ field-here args.publishers args.on args.size record-now c.requires.0.0; result_len = c.field.ensures.result_len }
+          ∙ field-here args.publishers args.on args.size record-now c.requires.0.0;
+      result_len = c.field.ensures.result_len;
+    }

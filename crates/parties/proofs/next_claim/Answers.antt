@@ -44,31 +44,31 @@ overflow_add-parties c =
 pub overflow_add-here : goal.overflow_add-here
 overflow_add-here c =
     let next : c.loop-rows.here + (c.size.result + 2) ≡ c.loop-rows.here + c.row_at-row.result.length + 2 =
-        omega (arith, c.size.ensures) in
+    omega (arith, c.size.ensures) in
     let inside : c.loop-rows.here + (c.size.result + 2) ≤ most_bytes =
-        let within = c.loop-rows.invariant.0 in
-        omega (arith, next, ends within.here c.row_at-row.ensures, within.short) in
+    let within = c.loop-rows.invariant.0 in
+    omega (arith, next, ends within.here c.row_at-row.ensures, within.short) in
     omega (arith, inside)
 
 pub overflow_add-here-in-loop-rows : goal.overflow_add-here-in-loop-rows
 overflow_add-here-in-loop-rows c =
     let next : c.loop-rows.here + (c.size.result + 2) ≡ c.loop-rows.here + c.row_at-row.result.length + 2 =
-        omega (arith, c.size.ensures) in
+    omega (arith, c.size.ensures) in
     let inside : c.loop-rows.here + (c.size.result + 2) ≤ most_bytes =
-        let within = c.loop-rows.invariant.0 in
-        omega (arith, next, ends within.here c.row_at-row.ensures, within.short) in
+    let within = c.loop-rows.invariant.0 in
+    omega (arith, next, ends within.here c.row_at-row.ensures, within.short) in
     omega (arith, inside)
 
 pub loop-rows-smaller : goal.loop-rows-smaller
 loop-rows-smaller c =
     let next : c.loop-rows.here + (c.size.result + 2) ≡ c.loop-rows.here + c.row_at-row.result.length + 2 =
-        omega (arith, c.size.ensures) in
+    omega (arith, c.size.ensures) in
     fewer c.loop-rows.invariant.0 c.row_at-row.ensures c.if-row-ne-DETAIL.false _ next
 
 pub loop-rows-preserved : goal.loop-rows-preserved
 loop-rows-preserved c =
     let next : c.loop-rows.here + (c.size.result + 2) ≡ c.loop-rows.here + c.row_at-row.result.length + 2 =
-        omega (arith, c.size.ensures) in
+    omega (arith, c.size.ensures) in
     let (within, same) = c.loop-rows.invariant in
     let parties = c.parties_in-parties.ensures in
     let detail = c.if-row-ne-DETAIL.false in (

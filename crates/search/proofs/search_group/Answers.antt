@@ -14,23 +14,26 @@ use Rattle.search.proofs.search_group.Goals as goal
 pub slice_bounds-opening-end : goal.slice_bounds-opening-end
 slice_bounds-opening-end c =
     let position : Position c.args.file.now (c.args.index + length (rest_at c.args.file.now c.args.at)) c.args.at c.args.index grt (rest_at c.args.file.now c.args.at) =
-        record { here = c.requires.file_len_bound.1; left = refl } in
+    record { here = c.requires.file_len_bound.1; left = refl } in
     omega (arith, opening-ends position c.requires.file_len_bound.2)
 
 pub search_transactions-requires : goal.search_transactions-requires
 search_transactions-requires c =
     let position : Position c.args.file.now (c.args.index + length (rest_at c.args.file.now c.args.at)) c.args.at c.args.index grt (rest_at c.args.file.now c.args.at) =
-        record { here = c.requires.file_len_bound.1; left = refl } in
+    record { here = c.requires.file_len_bound.1; left = refl } in
     let here = position-after group-header position refl c.requires.file_len_bound.2 _ refl in
     record { file_len_bound = (c.requires.file_len_bound.0, here.here, rw here.left c.requires.file_len_bound.3, omega (arith, c.requires.file_len_bound.4)); t_le_largest_tolerance = c.requires.t_le_largest_tolerance }
 
 pub returns : goal.returns
 returns c =
     let position : Position c.args.file.now (c.args.index + length (rest_at c.args.file.now c.args.at)) c.args.at c.args.index grt (rest_at c.args.file.now c.args.at) =
-        record { here = c.requires.file_len_bound.1; left = refl } in
+    record { here = c.requires.file_len_bound.1; left = refl } in
     let is-grh = c.requires.file_len_bound.2 in
     let named = c.field-named.ensures.result_value ∙ ap named_type (opening-lent position is-grh _ refl) in
-    let found = c.search_transactions.result in record { past_clean_group = rw named
+    let found = c.search_transactions.result in record {
+      past_clean_group = rw named
           at (known-after group-header position refl is-grh _ refl
           (λ k l. PastCleanGroup c.field-named.result.now c.args.file.now k c.args.number l found)
-          c.search_transactions.ensures.past_clean_group); result_value = λ tables e. rw (named, left_after group-header position refl is-grh _ refl) at (c.search_transactions.ensures.result_value tables e) }
+          c.search_transactions.ensures.past_clean_group);
+      result_value = λ tables e. rw (named, left_after group-header position refl is-grh _ refl) at (c.search_transactions.ensures.result_value tables e);
+    }

@@ -31,9 +31,12 @@ pub returns-in_default : goal.returns-in_default
 returns-in_default c =
     let args = c.args in
     let inv = c.loop-p.invariant.0 in
-    let (counted, none_yet) = done inv in record { past_clean_group = tt; result_value = λ tables e. grave-here (transaction_findings tables args.t args.named.now) args.number (xs inv) counted (none_yet tables e) _ _
+    let (counted, none_yet) = done inv in record {
+      past_clean_group = tt;
+      result_value = λ tables e. grave-here (transaction_findings tables args.t args.named.now) args.number (xs inv) counted (none_yet tables e) _ _
           (split-here inv c.loop-p-test.true)
-          (ap is_grave_transaction (sym c.in_default.is) ∙ c.search_transaction-one.ensures.result_value tables e) }
+          (ap is_grave_transaction (sym c.in_default.is) ∙ c.search_transaction-one.ensures.result_value tables e);
+    }
 
 pub overflow_add-k : goal.overflow_add-k
 overflow_add-k c =
@@ -42,21 +45,21 @@ overflow_add-k c =
 pub loop-p-smaller : goal.loop-p-smaller
 loop-p-smaller c =
     let clean : Passed =
-        c.in-Clean.q in
+    c.in-Clean.q in
     let past : PastTransaction c.args.named.now c.args.file.now (c.loop-p.p.index + length (rest_at c.args.file.now c.loop-p.p.at)) (rest_at c.args.file.now c.loop-p.p.at) clean =
-        subst (PastCleanTransaction _ _ _ _) c.in-Clean.is c.search_transaction-one.ensures.past_clean_transaction in
-    let fewer : length (rest_at c.args.file.now (clean).at) < length (rest_at c.args.file.now c.loop-p.p.at) =
-        fewer-left c.loop-p.invariant.0 clean c.loop-p-test.true past in
+    subst (PastCleanTransaction _ _ _ _) c.in-Clean.is c.search_transaction-one.ensures.past_clean_transaction in
+    let fewer : length (rest_at c.args.file.now clean.at) < length (rest_at c.args.file.now c.loop-p.p.at) =
+    fewer-left c.loop-p.invariant.0 clean c.loop-p-test.true past in
     fewer
 
 pub loop-p-preserved : goal.loop-p-preserved
 loop-p-preserved c =
     let clean : Passed =
-        c.in-Clean.q in
+    c.in-Clean.q in
     let past : PastTransaction c.args.named.now c.args.file.now (c.loop-p.p.index + length (rest_at c.args.file.now c.loop-p.p.at)) (rest_at c.args.file.now c.loop-p.p.at) clean =
-        subst (PastCleanTransaction _ _ _ _) c.in-Clean.is c.search_transaction-one.ensures.past_clean_transaction in
-    let fewer : length (rest_at c.args.file.now (clean).at) < length (rest_at c.args.file.now c.loop-p.p.at) =
-        fewer-left c.loop-p.invariant.0 clean c.loop-p-test.true past in
+    subst (PastCleanTransaction _ _ _ _) c.in-Clean.is c.search_transaction-one.ensures.past_clean_transaction in
+    let fewer : length (rest_at c.args.file.now clean.at) < length (rest_at c.args.file.now c.loop-p.p.at) =
+    fewer-left c.loop-p.invariant.0 clean c.loop-p-test.true past in
     let args = c.args in
     let inv = c.loop-p.invariant.0 in
     let (counted, none_yet) = done inv in
@@ -67,7 +70,7 @@ loop-p-preserved c =
     let on : (tables : Tables) → (e : Indexed tables args.slots.now) → _ =
     λ tables e. one_on (transaction_findings tables args.t args.named.now) args.number (xs inv) counted (none_yet tables e) _ (not-grave tables e) in (
       one_more inv clean c.loop-p-test.true past ((on some.0 some.1).0, λ tables e. (on tables e).1),
-      omega (arith, fewer, c.loop-p.invariant.1, (position inv).left, (past).position.left, ap length (past).position.here.left),
+      omega (arith, fewer, c.loop-p.invariant.1, (position inv).left, past.position.left, ap length past.position.here.left),
     )
 
 pub returns : goal.returns

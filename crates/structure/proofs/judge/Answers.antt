@@ -26,12 +26,15 @@ pub more-m-requires : goal.more-m-requires
 more-m-requires c =
     let g = c.args in
     let l = c.loop-s in
-    let b = l.invariant.bounded in record { class_bound = (b.class, b.kept, omega (arith, b.few, b.inside)); row_value = (
+    let b = l.invariant.bounded in record {
+      class_bound = (b.class, b.kept, omega (arith, b.few, b.inside));
+      row_value = (
         c.row_of-row.ensures,
         is-typed g.file.now g.asked g.version l.s l.m _ l.invariant c.loop-s-test.true
             c.text_end-end.result c.text_end-end.ensures.value _ refl c.row_of-row.result c.row_of-row.ensures c.shaped.result
             c.shaped.ensures ∙ not-false _ c.if-not-shaped.false-raw,
-      ) }
+      );
+    }
 
 pub after_record-s-requires : goal.after_record-s-requires
 after_record-s-requires c =

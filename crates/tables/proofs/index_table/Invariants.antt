@@ -1,4 +1,4 @@
-use Prim.Native.Nat.{◌+◌, ◌-◌, ◌/◌, ◌≤◌}
+use Prim.Native.Nat.{◌+◌, ◌/◌, ◌≤◌}
 use lib.ListN.{length}
 use Rattle.rules.specs.Tables.{most_entries}
 use Rattle.tables.proofs.Entries.{entries_from}

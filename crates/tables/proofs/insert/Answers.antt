@@ -1,6 +1,5 @@
 -- `tables::insert` meets its contract: the lower keys before the i-th slot have moved.
-use Prim.Native.Nat.{◌+◌, ◌-◌, ◌<◌, ◌≤◌}
-use mathlib.Core.Logic.{⊎_elim}
+use Prim.Native.Nat.{◌+◌, ◌<◌, ◌≤◌}
 use native.Mathlib.Omega.{arith}
 use borrow.Author.Rules.{rules}
 use lib.ListN.{get_or}
@@ -13,8 +12,7 @@ loop-i-init c = (omega arith, search rules, move_start _ _ _)
 
 pub loop-i-preserved : goal.loop-i-preserved
 loop-i-preserved c =
-    let l = c.loop-i in
-    (
+    let l = c.loop-i in (
       omega (arith, l.invariant.0),
       c.loop-i-test.true,
       move-on c.args.key c.args.from c.args.slots.now l.i l.slots l.invariant.2 l.invariant.0 (omega arith) c.if-key-next.false,

@@ -22,8 +22,11 @@ seek-next-requires c =
 pub returns : goal.returns
 returns c =
     let (tables₀, room₀, v, g, going₀, e, counted) = c.requires in
-    rw c.stand.ensures (record { going = λ tables room v₀ g₀ going.
+    rw c.stand.ensures (record {
+      going = λ tables room v₀ g₀ going.
           gone-on going e
           (c.seek-next.auto.verdicts ∙ c.settle-settled.auto.verdicts) (c.seek-next.auto.findings ∙ c.settle-settled.auto.findings)
           c.seek-next.result
-          (c.seek-next.ensures.by_index _ _ _ _ (c.settle-settled.ensures.owes _ _ _ _ _ _ _ ((passing going e).reached.doubts e) counted)); result_bound = (fewer-steps going₀ e c.seek-next.result _ _ _ c.settle-settled.ensures.at_value c.seek-next.ensures.result_bound, refl) })
+          (c.seek-next.ensures.by_index _ _ _ _ (c.settle-settled.ensures.owes _ _ _ _ _ _ _ ((passing going e).reached.doubts e) counted));
+      result_bound = (fewer-steps going₀ e c.seek-next.result _ _ _ c.settle-settled.ensures.at_value c.seek-next.ensures.result_bound, refl);
+    })

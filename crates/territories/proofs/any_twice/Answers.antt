@@ -1,5 +1,5 @@
 -- `territories::any_twice` meets its contract: the entries from the k-th on decide.
-use Prim.Native.Nat.{ℕ, ◌-◌, ◌≤◌}
+use Prim.Native.Nat.{ℕ, ◌≤◌}
 use mathlib.Core.Path.{refl, sym, ap, ◌∙◌}
 use native.Mathlib.Omega.{arith}
 use lib.ListN.{length, drop_of_length-le, length-replicate}

@@ -1,5 +1,4 @@
 -- `territories::hint` meets its contract: the codes before the k-th have their hints.
-use Prim.Native.Nat.{◌-◌}
 use mathlib.Core.Path.{ap, ◌∙◌}
 use native.Mathlib.Omega.{arith}
 use lib.ListN.{length-set}

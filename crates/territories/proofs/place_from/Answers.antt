@@ -1,5 +1,4 @@
 -- `territories::place_from` meets its contract: the entries from the k-th on decide.
-use Prim.Native.Nat.{◌-◌}
 use mathlib.Core.Path.{refl, sym, ◌∙◌}
 use native.Mathlib.Omega.{arith}
 use borrow.Author.Rules.{rules}

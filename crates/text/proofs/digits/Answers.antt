@@ -1,5 +1,4 @@
 -- `text::digits` meets its contract: the bytes from i on decide.
-use Prim.Native.Nat.{◌-◌}
 use native.Mathlib.Omega.{arith}
 use mathlib.Core.Path.{refl, sym, ◌∙◌}
 use borrow.Author.Tests.{not-true, not-false}

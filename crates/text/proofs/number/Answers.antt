@@ -1,5 +1,4 @@
 -- `text::number` meets its contract: n is what the bytes passed write, and has at most as many digits as they are.
-use Prim.Native.Nat.{◌-◌}
 use native.Mathlib.Omega.{arith}
 use mathlib.Core.Path.{refl}
 use lib.Dec.{lit<}

@@ -17,7 +17,7 @@ use Rattle.transactions.proofs.judge_transaction.Goals as goal
 pub judge_details-d-requires : goal.judge_details-d-requires
 judge_details-d-requires c =
     let position : Position c.args.file.now (c.args.index + length (rest_at c.args.file.now c.args.at)) c.args.at c.args.index head (rest_at c.args.file.now c.args.at) =
-        record { here = c.requires.file_len_bound.1; left = refl } in
+    record { here = c.requires.file_len_bound.1; left = refl } in
     let inside = position-after transaction-header position refl c.requires.file_len_bound.2 _ refl in
     record { file_len_bound = (c.requires.file_len_bound.0, inside.here, rw inside.left c.requires.file_len_bound.3.few, rw inside.left c.requires.file_len_bound.3); prepared = c.requires.t_le_largest_tolerance.1 }
 
@@ -25,7 +25,7 @@ judge_details-d-requires c =
 pub judge_header-h-requires : goal.judge_header-h-requires
 judge_header-h-requires c =
     let position : Position c.args.file.now (c.args.index + length (rest_at c.args.file.now c.args.at)) c.args.at c.args.index head (rest_at c.args.file.now c.args.at) =
-        record { here = c.requires.file_len_bound.1; left = refl } in
+    record { here = c.requires.file_len_bound.1; left = refl } in
     let inside = position-after transaction-header position refl c.requires.file_len_bound.2 _ refl in
     let below = past-below (c.judge_details-d.ensures.past_details refl) (omega (arith, inside.left, c.requires.file_len_bound.3.few)) in
     record { file_len_bound = (c.requires.file_len_bound.0, c.requires.file_len_bound.1, c.requires.file_len_bound.2); t_le_largest_tolerance = (c.requires.t_le_largest_tolerance.0, below) }
@@ -33,7 +33,7 @@ judge_header-h-requires c =
 pub settle-requires : goal.settle-requires
 settle-requires c =
     let position : Position c.args.file.now (c.args.index + length (rest_at c.args.file.now c.args.at)) c.args.at c.args.index head (rest_at c.args.file.now c.args.at) =
-        record { here = c.requires.file_len_bound.1; left = refl } in
+    record { here = c.requires.file_len_bound.1; left = refl } in
     let some = c.requires.t_le_largest_tolerance.1 in
     entry-room position refl (room-kept (c.judge_details-d.ensures.done_details some.0 some.1).done.0 c.requires.file_len_bound.3)
 
@@ -51,35 +51,38 @@ slice_bounds-raise-start c =
 pub slice_bounds-raise-end : goal.slice_bounds-raise-end
 slice_bounds-raise-end c =
     let position : Position c.args.file.now (c.args.index + length (rest_at c.args.file.now c.args.at)) c.args.at c.args.index head (rest_at c.args.file.now c.args.at) =
-        record { here = c.requires.file_len_bound.1; left = refl } in
+    record { here = c.requires.file_len_bound.1; left = refl } in
     let past : PastDetails c.args.file.now (c.args.index + length (rest_at c.args.file.now c.args.at)) (tail_of (rest_at c.args.file.now c.args.at)) c.judge_details-d.result =
-        known-after transaction-header position refl c.requires.file_len_bound.2 _ refl (λ k l. PastDetails c.args.file.now k l c.judge_details-d.result)
-        (c.judge_details-d.ensures.past_details refl) in
+    known-after transaction-header position refl c.requires.file_len_bound.2 _ refl (λ k l. PastDetails c.args.file.now k l c.judge_details-d.result)
+    (c.judge_details-d.ensures.past_details refl) in
     let headed : (tables : Tables) → Indexed tables c.args.slots.now → Headed tables c.args.t c.args.named.now (front_of (rest_at c.args.file.now c.args.at)) c.judge_header-h.result =
-        λ tables e. let known = past in
-        c.judge_header-h.ensures tables _ e known.known known.linked in
+    λ tables e. let known = past in
+    c.judge_header-h.ensures tables _ e known.known known.linked in
     let some = c.requires.t_le_largest_tolerance.1 in
     let room = room-kept (c.judge_details-d.ensures.done_details some.0 some.1).done.0 c.requires.file_len_bound.3 in
-    omega (arith, (past).position.left, room.in_v, kept-v (c.settle.ensures _ (headed some.0 some.1).set))
+    omega (arith, past.position.left, room.in_v, kept-v (c.settle.ensures _ (headed some.0 some.1).set))
 
 pub returns : goal.returns
 returns c =
     let position : Position c.args.file.now (c.args.index + length (rest_at c.args.file.now c.args.at)) c.args.at c.args.index head (rest_at c.args.file.now c.args.at) =
-        record { here = c.requires.file_len_bound.1; left = refl } in
+    record { here = c.requires.file_len_bound.1; left = refl } in
     let past : PastDetails c.args.file.now (c.args.index + length (rest_at c.args.file.now c.args.at)) (tail_of (rest_at c.args.file.now c.args.at)) c.judge_details-d.result =
-        known-after transaction-header position refl c.requires.file_len_bound.2 _ refl (λ k l. PastDetails c.args.file.now k l c.judge_details-d.result)
-        (c.judge_details-d.ensures.past_details refl) in
+    known-after transaction-header position refl c.requires.file_len_bound.2 _ refl (λ k l. PastDetails c.args.file.now k l c.judge_details-d.result)
+    (c.judge_details-d.ensures.past_details refl) in
     let headed : (tables : Tables) → Indexed tables c.args.slots.now → Headed tables c.args.t c.args.named.now (front_of (rest_at c.args.file.now c.args.at)) c.judge_header-h.result =
-        λ tables e. let known = past in
-        c.judge_header-h.ensures tables _ e known.known known.linked in
-    let some = c.requires.t_le_largest_tolerance.1 in record { past_transaction = record {
-        position = (past).position;
-        class = (past).class;
+    λ tables e. let known = past in
+    c.judge_header-h.ensures tables _ e known.known known.linked in
+    let some = c.requires.t_le_largest_tolerance.1 in record {
+      past_transaction = record {
+        position = past.position;
+        class = past.class;
         stray = (headed some.0 some.1).stray;
-      }; filled_transaction = λ tables e. filled-whole tables c.args.t c.args.named.now (front_of (rest_at c.args.file.now c.args.at))
+      };
+      filled_transaction = λ tables e. filled-whole tables c.args.t c.args.named.now (front_of (rest_at c.args.file.now c.args.at))
           (rw (left_after transaction-header position refl c.requires.file_len_bound.2 _ refl) at (c.judge_details-d.ensures.done_details tables e))
           (headed tables e) (c.settle.ensures _ (headed tables e).set) c.least-least.ensures
-          c.raise.ensures }
+          c.raise.ensures;
+    }
 
 pub shape_of-verdicts : goal.shape_of-verdicts
 shape_of-verdicts c =

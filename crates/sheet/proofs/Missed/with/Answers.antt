@@ -12,7 +12,7 @@ use Rattle.sheet.proofs.Missed.with.Goals as goal
 pub returns : goal.returns
 returns c =
     let fits : SFits w64 c.args.self.sum × SFits w64 c.args.m.sum =
-        (search rules, search rules) in
+    (search rules, search rules) in
     let added = c.signed_plus-sum in
     let (a, b) = fits in
     let sum =

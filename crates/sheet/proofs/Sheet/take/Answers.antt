@@ -14,7 +14,7 @@ pub returns-then-not-passes : goal.returns-then-not-passes
 unfolding answer_to
 returns-then-not-passes c =
     let lent : Taken =
-        record { tables = tables_of c.args.languages.now c.args.societies.now c.args.categories.now; file = c.args.file.now } in
+    record { tables = tables_of c.args.languages.now c.args.societies.now c.args.categories.now; file = c.args.file.now } in
     let x = lent in
     let room = lt-leb _ _ c.if-self-ge-MOST_FILES.false in
     let refused = sym c.passes.ensures ∙ not-true _ c.if-not-passes.true-raw in
@@ -30,7 +30,7 @@ pub returns : goal.returns
 unfolding answer_to
 returns c =
     let lent : Taken =
-        record { tables = tables_of c.args.languages.now c.args.societies.now c.args.categories.now; file = c.args.file.now } in
+    record { tables = tables_of c.args.languages.now c.args.societies.now c.args.categories.now; file = c.args.file.now } in
     let x = lent in
     let room = lt-leb _ _ c.if-self-ge-MOST_FILES.false in
     let passes = sym c.passes.ensures ∙ not-false _ c.if-not-passes.false-raw in

@@ -13,7 +13,8 @@ returns c =
     let sr = c.share_sr.ensures.0 in
     let mark = c.indicator-indicator in
     let type = c.read_type-t.ensures in
-    let spu = c.is_spu-spu.ensures in record { publisher_reads = record {
+    let spu = c.is_spu-spu.ensures in record {
+      publisher_reads = record {
         kind = c.requires;
         spu = spu.value;
         opu = spu.result_value;
@@ -24,4 +25,6 @@ returns c =
         aq = (type.e_value spu.result_value).1;
         shares = shares.counts_value ∙ rw (pr, mr, sr);
         bad = shares.bad_value ∙ rw (c.requires.1, pr, mr, sr);
-      }; bounded = (shares.at_most, c.read_sequence-sequence.ensures.below100) }
+      };
+      bounded = (shares.at_most, c.read_sequence-sequence.ensures.below100);
+    }

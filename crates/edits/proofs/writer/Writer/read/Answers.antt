@@ -10,7 +10,8 @@ returns c =
     let pr = c.share_pr.ensures.0 in
     let mr = c.share_mr.ensures.0 in
     let sr = c.share_sr.ensures.0 in
-    let roles = c.read_roles-d.ensures in record { writer_reads = record {
+    let roles = c.read_roles-d.ensures in record {
+      writer_reads = record {
         kind = c.requires;
         swr = c.is_swr.ensures.value;
         owr = c.is_swr.ensures.result_value;
@@ -20,4 +21,6 @@ returns c =
         author = roles.author_value;
         shares = shares.counts_value ∙ rw (pr, mr, sr);
         bad = shares.bad_value ∙ rw (c.requires.1, pr, mr, sr);
-      }; at_most = shares.at_most }
+      };
+      at_most = shares.at_most;
+    }
