@@ -1,5 +1,4 @@
-// A list of claims that the caller lends. Each function over it is a walk by hand, and thin: what is read of a file, and what a claim adds, is the
-// crate `claims`.
+// A list of claims that the caller lends. Each function over it is thin: what is read of a file, and what a claim adds, is the crate `claims`.
 #![tactic(auto)]
 
 ghost use Rattle.std.specs.Prelude.{◌≡◌, true, ◌++◌, ◌≤◌, length, take, drop, replicate};

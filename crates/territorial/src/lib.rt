@@ -1,6 +1,6 @@
 // The check with a territory table (M-105), as the library offers it. The check without one fills the buffers; then the file's claims are
-// walked over, and of each transaction in doubt listed and counted. It stands apart from the library's other calls because a list of structs
-// is lent to it, so that its proof is by hand.
+// walked over, and of each transaction in doubt listed and counted. It stands apart from the library's other calls, because it alone is lent a
+// list of structs.
 #![tactic(auto)]
 
 ghost use Rattle.std.specs.Prelude.{◌≡◌, ℕ, ◌<◌, ◌≤◌, length};
