@@ -15,18 +15,18 @@ static enum outcome outcome_of(const struct judged *judged) {
 }
 
 /* Whether the file is refused by this answer; then that is its outcome, and why is explained. */
-static bool is_refused(struct judged *judged, struct bytes file, uint64_t answer) {
+static bool is_refused(const struct run *run, struct judged *judged, struct bytes file, uint64_t answer) {
     if (cwr_refusal(answer) == 0)
         return false;
     judged->outcome = OUTCOME_REFUSED;
-    refused_explain(&judged->refused, file, answer);
+    refused_explain(&judged->refused, file, answer, run_has_territories(run));
     return true;
 }
 
 static bool judge_all(const struct run *run, struct bytes file, struct judged *judged) {
     if (!check_run(run, file, &judged->check, &judged->why))
         return false;
-    if (is_refused(judged, file, judged->check.answer))
+    if (is_refused(run, judged, file, judged->check.answer))
         return true;
     if (!works_of(judged))
         return fail(&judged->why, "needs more memory than there is");
@@ -39,7 +39,7 @@ static bool judge_all(const struct run *run, struct bytes file, struct judged *j
 /* No work is rejected with its group unless one is for something in itself. So where there is none to look at, none is rejected. */
 static bool judge_first(const struct run *run, struct bytes file, struct judged *judged) {
     uint64_t answer = run_first(run, file);
-    if (is_refused(judged, file, answer))
+    if (is_refused(run, judged, file, answer))
         return true;
     bool any = cwr_place(answer) != CWR_NO_TRANSACTION;
     judged->outcome = any ? OUTCOME_REJECTED : OUTCOME_NONE_REJECTED;

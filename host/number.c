@@ -27,7 +27,7 @@ static void say_numbered(struct out *out, const char *to, struct bytes file, siz
 
 static enum status refuse(struct out *out, const char *from, struct bytes file, uint64_t answer) {
     struct judged judged = {.name = file_title(from), .outcome = OUTCOME_REFUSED};
-    refused_explain(&judged.refused, file, answer);
+    refused_explain(&judged.refused, file, answer, false);
     say_name(out, judged.name);
     say(out, ": ");
     say_outcome(out, &judged);

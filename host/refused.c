@@ -241,8 +241,13 @@ static void explain(struct out *out, struct refused *refused, struct bytes file)
         explain_version(out, refused, file);
 }
 
-void refused_explain(struct refused *refused, struct bytes file, uint64_t answer) {
-    const struct refusal *words = refusal_words(cwr_refusal(answer));
+static bool is_of_territories(uint32_t refusal) {
+    return refusal == TERRITORIES_REFUSED || refusal == CLAIMS_REFUSED;
+}
+
+void refused_explain(struct refused *refused, struct bytes file, uint64_t answer, bool with_territories) {
+    bool none = is_of_territories(cwr_refusal(answer)) && !with_territories;
+    const struct refusal *words = none ? NULL : refusal_words(cwr_refusal(answer));
     *refused = (struct refused){.number = cwr_refusal(answer), .place = cwr_place(answer), .column = 1};
     refused->sentence = words ? words->sentence : "This program has no words for this refusal.";
     refused->has_line = words && words->place == PLACE_LINE;

@@ -16,8 +16,9 @@ struct refused {
     size_t column;        /* in it; 1 where none is known */
 };
 
-/* Of a file and the answer to it, by the check or by numbering. */
-void refused_explain(struct refused *refused, struct bytes file, uint64_t answer);
+/* Of a file and the answer to it, by the check or by numbering; whether a territory table was lent, without which 13 and 14 are no
+ * refusals. */
+void refused_explain(struct refused *refused, struct bytes file, uint64_t answer, bool with_territories);
 
 /* What is wrong here, or what the refusal means where no more can be told. */
 const char *refused_reason(const struct refused *refused);

@@ -209,8 +209,8 @@ static const struct refusal refusals[] = {
     [10] = {PLACE_LINE, "The HDR does not say version 2.2 (start 102) with a revision from 000 to 002 (start 105)."},
     [11] = {PLACE_NOTHING, "This program lent the library too little room; it is a fault of the program."},
     [SHEET_REFUSED] = {PLACE_NOTHING, "The sheet is full: it takes 4,096 files, refused ones counted."},
-    [13] = {PLACE_NOTHING, "This program lent the library a territory table that is not right; it is a fault of the program."},
-    [14] = {PLACE_LINE, "This program lent the library too short a list for the claims of this work; it is a fault of the program."},
+    [TERRITORIES_REFUSED] = {PLACE_NOTHING, "This program lent the library a territory table that is not right; it is a fault of the program."},
+    [CLAIMS_REFUSED] = {PLACE_LINE, "This program lent the library too short a list for the claims of this work; it is a fault of the program."},
 };
 
 _Static_assert(sizeof findings / sizeof findings[0] == 49, "findings 0 to 48");

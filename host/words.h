@@ -59,7 +59,7 @@ struct refusal {
 };
 
 /* Those that are no fault of a file. */
-enum { TOLERANCE_REFUSED = 1, TABLE_REFUSED = 2, SHEET_REFUSED = 12 };
+enum { TOLERANCE_REFUSED = 1, TABLE_REFUSED = 2, SHEET_REFUSED = 12, TERRITORIES_REFUSED = 13, CLAIMS_REFUSED = 14 };
 
 /* Null for a number that is none. */
 const struct refusal *refusal_words(uint32_t number);

@@ -11,11 +11,11 @@ use Rattle.sheet.specs.declared.Taken.{Taken}
 use Rattle.sheet.specs.Told.{added_of}
 use Rattle.cwr.specs.declared.First.{First}
 use Rattle.cwr.specs.declared.First.TheVariants.{Refused, Nothing, At}
-use Rattle.cwr.specs.First.{first_record}
+use Rattle.cwr.specs.First.{rules_first}
 use Rattle.cwr.specs.Promises.{OneFits}
 
 -- no two cases stand for one outcome
-first_alone : (r s : First) → first_record r ≡ first_record s → r ≡ s
+first_alone : (r s : First) → rules_first r ≡ rules_first s → r ≡ s
 first_alone (Refused a) (Refused b) e = ap Refused (answer-alone a b cc)
 first_alone (Refused a) Nothing e = let z : ◌≡◌ {A = ℕ} 0 1 = cc in absurd (omega arith)
 first_alone (Refused a) (At k) e = let z : ◌≡◌ {A = ℕ} 0 1 = cc in absurd (omega arith)

@@ -5,10 +5,10 @@ use Rattle.answers.specs.Numbers.{answer_of, exact}
 use Rattle.cwr.specs.declared.First.{First}
 use Rattle.cwr.specs.declared.First.TheVariants.{Refused, Nothing, At}
 
-abbrev pub first_record : First → RulesFirst
-first_record (Refused a) = refused_with (answer_of a)
-first_record Nothing = nothing
-first_record (At k) = at k
+abbrev pub rules_first : First → RulesFirst
+rules_first (Refused a) = refused_with (answer_of a)
+rules_first Nothing = nothing
+rules_first (At k) = at k
 
 -- a refusal as the check's, 2^32 - 1 for nothing, or the transaction's number
 abbrev pub exact_first : RulesFirst → ℕ

@@ -13,7 +13,7 @@ use Rattle.numbering.specs.Outcome.{number_answer, number_buffer}
 use Rattle.sheet.specs.declared.Taken.{Taken}
 use Rattle.sheet.specs.Told.{added_of}
 use Rattle.cwr.specs.declared.First.{First}
-use Rattle.cwr.specs.First.{first_record}
+use Rattle.cwr.specs.First.{rules_first}
 
 -- what a check has done, as the definition says it: its answer, and the two buffers after it
 abbrev pub outcome : Answer → Bytes → Bytes → Outcome
@@ -25,7 +25,7 @@ Checked tables t f v g r v' g' = outcome r v' g' ≡ check tables t f v g
 
 -- `first_rejected`
 abbrev pub FirstRejected : Tables → ℕ → Bytes → First → Type 0
-FirstRejected tables t f r = first_record r ≡ first tables t f
+FirstRejected tables t f r = rules_first r ≡ first tables t f
 
 -- `sheet_add`, on the sheet s
 abbrev pub SheetTaken : Sheet → Tables → Bytes → Taken → Type 0

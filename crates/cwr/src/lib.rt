@@ -18,7 +18,7 @@ ghost use Rattle.transactions.specs.Walk.{rest_at, Room};
 ghost use Rattle.files.specs.Levels.{WrittenFile};
 ghost use Rattle.sheet.specs.Told.{told_of};
 ghost use Rattle.search.specs.Levels.{in_file};
-ghost use Rattle.cwr.specs.First.{first_record};
+ghost use Rattle.cwr.specs.First.{rules_first};
 ghost use Rattle.cwr.specs.Packed.{packed_first};
 ghost use Rattle.cwr.specs.Promises.{Checked, FirstRejected, SheetTaken, Numbered, Counted, Lowest, RightLength};
 
@@ -112,7 +112,7 @@ pub enum First {
 impl First {
     // In one number.
     pub fn packed(self) -> u64
-        ensures { result ≡ packed_first (first_record self) }
+        ensures { result ≡ packed_first (rules_first self) }
     {
         match self {
             First::Refused(answer) => answer.packed(),

@@ -21,7 +21,7 @@ use Rattle.answers.proofs.Exact.{exact-so}
 use Rattle.numbering.proofs.Claims.{near}
 use Rattle.sheet_bytes.specs.Layout.{sheet_size, sheet_in, bytes_of_sheet}
 use Rattle.cwr.specs.declared.First.{First}
-use Rattle.cwr.specs.First.{first_record}
+use Rattle.cwr.specs.First.{rules_first}
 use Rattle.cwr.specs.Packed.{packed_first}
 use Rattle.cwr.specs.Promises.{Checked, FirstRejected, Numbered}
 use Rattle.cwr.proofs.Firsts.{first-exact}
@@ -41,7 +41,7 @@ module _ (a : Answer) {r : ℕ} (e : r ≡ packed_of (answer_of a)) where
   pub numbered : (f out out' : Bytes) → Numbered f out a out' → NumberedC f out r out'
   numbered f out out' is = (exact-so e is.0 (near f (length out)), is.1)
 
-pub first-rejected : (x : First) {r : ℕ} → r ≡ packed_first (first_record x) → (tables : Tables) (t : ℕ) (f : Bytes) → FirstRejected tables t f x
+pub first-rejected : (x : First) {r : ℕ} → r ≡ packed_first (rules_first x) → (tables : Tables) (t : ℕ) (f : Bytes) → FirstRejected tables t f x
     → FirstRejectedC tables t f r
 first-rejected x e tables t f is = first-exact tables t f e is
 
