@@ -4,9 +4,17 @@
 
 ghost use Rattle.std.specs.Prelude.{◌≡◌, true, List, ℕ, ◌+◌, ◌*◌, ◌<◌, ◌≤◌, length, take, drop, replicate};
 ghost use Rattle.format.specs.Bytes.{Bytes, among};
-ghost use Rattle.rules.specs.Tables.{Tables, tables_of, language_size, society_size, category_size, most_entries, right_table, entries, is_in};
+ghost use Rattle.rules.specs.Tables.{Tables as LentTables, tables_of, language_size, society_size, category_size, most_entries, right_table, entries, is_in};
 ghost use Rattle.tables.specs.Index.{hint_count, part_size, slot_count, key_of, hint_of, AreBytes, Free, Ascending, Stands, Kept, Inserted};
 ghost use Rattle.tables.specs.Index.{Part, Indexed};
+
+// The tables that a caller lends for a run.
+#[derive(Clone, Copy)]
+pub struct Tables<'a> {
+    pub languages: &'a [u8],
+    pub societies: &'a [u8],
+    pub categories: &'a [u8],
+}
 
 // How many bytes an entry of each table has.
 pub const LANGUAGE: usize = 2;
@@ -172,21 +180,21 @@ fn has(slots: &Slots, first: usize, code: &[u8]) -> bool
 
 pub fn has_language(slots: &Slots, code: &[u8]) -> bool
     requires { length code.now ≡ language_size }
-    ensures { (tables : Tables) → Indexed tables slots.now → result ≡ is_in language_size tables.languages code.now }
+    ensures { (lent : LentTables) → Indexed lent slots.now → result ≡ is_in language_size lent.languages code.now }
 {
     has(slots, 0, code)
 }
 
 pub fn has_society(slots: &Slots, code: &[u8]) -> bool
     requires { length code.now ≡ society_size }
-    ensures { (tables : Tables) → Indexed tables slots.now → result ≡ is_in society_size tables.societies code.now }
+    ensures { (lent : LentTables) → Indexed lent slots.now → result ≡ is_in society_size lent.societies code.now }
 {
     has(slots, SOCIETIES, code)
 }
 
 pub fn has_category(slots: &Slots, code: &[u8]) -> bool
     requires { length code.now ≡ category_size }
-    ensures { (tables : Tables) → Indexed tables slots.now → result ≡ is_in category_size tables.categories code.now }
+    ensures { (lent : LentTables) → Indexed lent slots.now → result ≡ is_in category_size lent.categories code.now }
 {
     has(slots, CATEGORIES, code)
 }
