@@ -8,28 +8,31 @@ use native.Mathlib.Nat.{pow-suc, pow-le-pow_right}
 use native.Mathlib.Numerals.{add-one}
 use native.Mathlib.Omega.{arith}
 use lib.Dec.{eqb, lit<}
-use lib.ListN.{length, take, drop, get_or, set, drop_of_length-le, length-drop}
-use lib.Seq.{length-take-le, take_all, take-nil, take-suc, append_snoc, drop-cons, drop_at, set_split}
+use lib.ListN.{length, take, drop, get_or, set, drop_of_length-le, length-drop, length-append}
+use lib.Seq.{length-take-le, take_all, take-nil, append_snoc, drop-cons, drop_at, set_split}
+use Rattle.std.specs.Bool.{MatchBool}
+use Rattle.std.specs.List.{AllWithin, HoldsAt}
+use Rattle.std.specs.Cmp.Lexicographic.{pointwise}
 use Rattle.format.specs.Bytes.{every, same_bytes, decimal}
 use Rattle.format.specs.Fields.{digit, number_from, number_of}
 use Rattle.format.proofs.Decimal.{length-decimal}
 
--- the bytes from i on decide whether every byte passes the test p
-abbrev pub RestDecides : (ℕ → Bool) → List ℕ → ℕ → Type 0
-RestDecides p l i = (i ≤ length l) × (every p (drop i l) ≡ every p l)
+-- what `all` answered is whether every element passes
+module _ (p : ℕ → Bool) where
+  every-all : (l : List ℕ) → AllWithin (λ x. p x ≡ true) l 0 (length l) → true ≡ every p l
+  every-all [] h = refl
+  every-all (x ∷ l) h = rw (h 0 0 (omega arith) (omega arith)) (every-all l (λ k d a b. h (suc k) d (omega arith) (omega arith)))
 
-module _ (p : ℕ → Bool) (l : List ℕ) (i : ℕ) (inv : RestDecides p l i) where
-  split : (t : Bool) → i < length l → p (get_or l i 0) ≡ t → (t && every p (drop (i + 1) l)) ≡ every p l
-  split t h e = rw (← e, ← inv.1, add-one, drop-cons l i 0)
+  every-but : (l : List ℕ) (k : ℕ) → k < length l → HoldsAt (λ x. p x ≡ false) l k → false ≡ every p l
+  every-but [] k h e = absurd (omega arith)
+  every-but (x ∷ l) zero h e = rw (e 0)
+  every-but (x ∷ l) (suc k) h e = rw (← every-but l k (omega arith) e, and-false)
 
-  pub every-on : i < length l → p (get_or l i 0) ≡ true → RestDecides p l (i + 1)
-  every-on h e = (omega arith, split true h e)
-
-  pub every-off : i < length l → p (get_or l i 0) ≡ false → false ≡ every p l
-  every-off h e = split false h e
-
-  pub every-end : length l ≤ i → true ≡ every p l
-  every-end h = rw (drop_of_length-le l h) at inv.1
+  pub every-answered : (r : Bool) (l : List ℕ)
+      → MatchBool r (AllWithin (λ x. p x ≡ true) l 0 (length l)) ((k : ℕ) × (k < length l) × HoldsAt (λ x. p x ≡ false) l k)
+      → r ≡ every p l
+  every-answered true l h = every-all l h
+  every-answered false l h = every-but l h.0 h.1 h.2
 
 -- the i bytes before write n, and after n the bytes from i on write the whole number
 abbrev pub Reads : List ℕ → ℕ → ℕ → Type 0
@@ -70,31 +73,27 @@ swap false b c = refl
 swap true false c = sym (and-false c)
 swap true true c = sym (and-true c)
 
--- where the bytes from i on were the last digits, the first i bytes are left to compare with the digits of rest
-abbrev pub Compares : ℕ → List ℕ → Bool → ℕ → ℕ → Type 0
-Compares n l same rest i = (i ≤ length l) × ((same && same_bytes (take i l) (decimal i rest)) ≡ same_bytes l (decimal (length l) n))
+-- where the bytes after `left` were the last digits, those left are to compare with the digits of rest
+abbrev pub Compares : ℕ → List ℕ → Bool → ℕ → List ℕ → Type 0
+Compares n l same rest left = (same && same_bytes left (decimal (length left) rest)) ≡ same_bytes l (decimal (length l) n)
 
-module _ (n : ℕ) (l : List ℕ) where
-  pub same_start : Compares n l true n (length l)
-  same_start = (omega arith, ap (λ (x : List ℕ). same_bytes x (decimal (length l) n)) (take_all (length l) l (omega arith)))
+pub same-on : (n : ℕ) (l : List ℕ) (s : Bool) (rest : ℕ) (left : List ℕ) (b : ℕ) → Compares n l s rest (left ++ b ∷ [])
+    → Compares n l (s && eqb b (48 + rest % 10)) (rest / 10) left
+unfolding decimal
+same-on n l s rest left b inv =
+    let digit = 48 + rest % 10 in
+    let others = decimal (length left) (rest / 10) in
+    let last = same-snoc left others b digit (rw length-decimal) in
+    let more : length (left ++ b ∷ []) ≡ suc (length left) = simp length-append (omega arith) in
+    swap s (eqb b digit) (same_bytes left others) ∙ (rw (more, last) at inv)
 
-  pub same-on : (s : Bool) (rest i : ℕ) → 0 < i → Compares n l s rest i
-      → Compares n l (s && eqb (get_or l (i - 1) 0) (48 + rest % 10)) (rest / 10) (i - 1)
-  unfolding decimal
-  same-on s rest zero h inv = absurd (omega arith)
-  same-on s rest (suc w) h inv =
-      let e : suc w - 1 ≡ w = omega arith in
-      let here = get_or l w 0 in
-      let digit = 48 + rest % 10 in
-      let others = decimal w (rest / 10) in
-      let last = same-snoc (take w l) others here digit (rw length-decimal (length-take-le w l (omega arith))) in (
-        omega arith,
-        rw e (swap s (eqb here digit) (same_bytes (take w l) others) ∙ (rw (take-suc l w 0 inv.0, last) at inv.1)),
-      )
+pub no-length : (l : List ℕ) → length l ≡ 0 → l ≡ []
+no-length [] h = refl
+no-length (b ∷ l) h = absurd (omega arith)
 
-  pub same_end : (s : Bool) (rest : ℕ) → Compares n l s rest 0 → s ≡ same_bytes l (decimal (length l) n)
-  unfolding decimal
-  same_end s rest inv = sym (and-true s) ∙ inv.1
+pub same_end : (n : ℕ) (l : List ℕ) (s : Bool) (rest : ℕ) → Compares n l s rest [] → s ≡ same_bytes l (decimal (length l) n)
+unfolding decimal
+same_end n l s rest inv = sym (and-true s) ∙ inv
 
 -- ---- a field of a record that may be too short for it
 
@@ -112,20 +111,10 @@ module _ (l : List ℕ) (a size : ℕ) where
   pub within : take (a + size - a) (drop a l) ≡ take size (drop a l)
   within = let p : a + size - a ≡ size = omega arith in rw p
 
--- ---- three bytes
+-- ---- slices are compared as the format compares bytes
 
-module _ (a b c : ℕ) where
-  pub three-not : (l : List ℕ) → (length l ≡ 3 → ⊥) → false ≡ same_bytes l (a ∷ b ∷ c ∷ [])
-  three-not [] h = refl
-  three-not (x ∷ []) h = sym (and-false (eqb x a))
-  three-not (x ∷ y ∷ []) h = sym (rw (and-false (eqb y b), and-false (eqb x a)))
-  three-not (x ∷ y ∷ z ∷ []) h = absurd (h refl)
-  three-not (x ∷ y ∷ z ∷ w ∷ l) h = sym (rw (and-false (eqb z c), and-false (eqb y b), and-false (eqb x a)))
-
-  pub three-are : (l : List ℕ) → length l ≡ 3
-      → (eqb (get_or l 0 0) a && eqb (get_or l 1 0) b && eqb (get_or l 2 0) c) ≡ same_bytes l (a ∷ b ∷ c ∷ [])
-  three-are [] h = absurd (omega arith)
-  three-are (x ∷ []) h = absurd (omega arith)
-  three-are (x ∷ y ∷ []) h = absurd (omega arith)
-  three-are (x ∷ y ∷ z ∷ []) h = rw (and-true (eqb z c)) (and_assoc (eqb x a) (eqb y b) (eqb z c))
-  three-are (x ∷ y ∷ z ∷ w ∷ l) h = absurd (omega arith)
+pub sliced : (x y : List ℕ) → pointwise eqb x y ≡ same_bytes x y
+sliced [] [] = refl
+sliced [] (b ∷ y) = refl
+sliced (a ∷ x) [] = refl
+sliced (a ∷ x) (b ∷ y) = ap (λ (t : Bool). eqb a b && t) (sliced x y)

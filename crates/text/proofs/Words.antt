@@ -1,13 +1,13 @@
 -- Words: that they keep their bytes, that two are the same where their bytes are, and how the word of a number's digits grows by one.
 use mathlib.Core.Path.{◌≡◌, refl, sym, ap, ◌∙◌}
 use mathlib.Core.Bool.{Bool, true, false, ◌&&◌, false≢true}
-use mathlib.Core.List.{[], ◌∷◌, ◌++◌, append-nil}
+use mathlib.Core.List.{[], ◌∷◌, ◌++◌}
 use Prim.Native.Nat.{ℕ, zero, suc, ◌+◌, ◌-◌, ◌*◌, ◌/◌, ◌%◌, ◌^◌, ◌<◌, ◌≤◌}
 use native.Mathlib.Nat.{pow-suc, pow-succ', mul-add, mul_assoc, mul-one, mul-le-mul_left}
 use native.Mathlib.Omega.{arith}
 use lib.Dec.{ltb, leb, eqb}
-use lib.ListN.{length, get_or, drop_of_length-le}
-use lib.Seq.{sets, sets-eq}
+use lib.ListN.{length, get_or}
+use Rattle.std.specs.Int.{w64, to_le_bytes}
 use borrow.Author.Tests.{eqb-true, eqb-false, eq-eqb, lt-ltb, leb-true, leb-false}
 use Rattle.format.specs.Bytes.{Bytes, All, same_bytes, decimal, bytes_of}
 use Rattle.format.proofs.Decimal.{length-decimal}
@@ -79,11 +79,16 @@ module _ (l : Bytes) (h : length l ≡ 8) where
       let kept = bytes-kept l (are-bytes l b) in
       (word, rw word (ap (λ (w : ℕ). bytes_of w (word_of l)) (sym h) ∙ kept))
 
-pub stores : (l : Bytes) (x : ℕ) → length l ≡ 8 → sets l 0 (bytes_of 8 x) ≡ bytes_of 8 x
+pub taken-apart : (x : ℕ) → to_le_bytes w64 x ≡ bytes_of 8 x
 unfolding bytes_of
-stores l x h =
-    sets-eq (bytes_of 8 x) l 0 (let e : 8 ≤ length l = omega arith in e)
-    ∙ rw (drop_of_length-le l {i = 8} (omega arith)) (append-nil (bytes_of 8 x))
+taken-apart x =
+    let two : x / 65536 ≡ x / 256 / 256 = omega arith in
+    let three : x / 16777216 ≡ x / 256 / 256 / 256 = omega arith in
+    let four : x / 4294967296 ≡ x / 256 / 256 / 256 / 256 = omega arith in
+    let five : x / 1099511627776 ≡ x / 256 / 256 / 256 / 256 / 256 = omega arith in
+    let six : x / 281474976710656 ≡ x / 256 / 256 / 256 / 256 / 256 / 256 = omega arith in
+    let seven : x / 72057594037927936 ≡ x / 256 / 256 / 256 / 256 / 256 / 256 / 256 = omega arith in
+    simp (two, three, four, five, six, seven)
 
 -- ---- two words are the same where their bytes are
 

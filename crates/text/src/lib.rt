@@ -39,24 +39,14 @@ pub fn part(record: &[u8], start: usize, size: usize) -> &[u8]
 pub fn is_three(field: &[u8], a: u8, b: u8, c: u8) -> bool
     ensures { result ≡ same_bytes field.now (a ∷ b ∷ c ∷ []) }
 {
-    if field.len() != 3 {
-        return false;
-    }
-    (field[0] == a) & (field[1] == b) & (field[2] == c)
+    field == [a, b, c].as_slice()
 }
 
 // Whether each byte is this one, as it is in an empty field.
 pub fn filled(field: &[u8], b: u8) -> bool
     ensures { result ≡ every (λ x. eqb x b) field.now }
 {
-    let mut i = 0;
-    while i < field.len() {
-        if field[i] != b {
-            return false;
-        }
-        i += 1;
-    }
-    true
+    field.iter().all(|x| *x == b)
 }
 
 // Whether each byte is a space.
@@ -69,21 +59,14 @@ pub fn blank(field: &[u8]) -> bool
 pub fn is_digit(b: u8) -> bool
     ensures { result ≡ is_digit b }
 {
-    (b'0' <= b) & (b <= b'9')
+    b.is_ascii_digit()
 }
 
 // Whether each byte is a digit, as it is in an empty field.
 pub fn digits(field: &[u8]) -> bool
     ensures { result ≡ are_digits field.now }
 {
-    let mut i = 0;
-    while i < field.len() {
-        if !is_digit(field[i]) {
-            return false;
-        }
-        i += 1;
-    }
-    true
+    field.iter().all(|b| is_digit(*b))
 }
 
 // What a digit stands for; 0 of any other byte.
@@ -91,7 +74,7 @@ pub fn digit(b: u8) -> u64
     ensures value { result ≡ digit b }
     ensures upper_bound { result ≤ 9 }
 {
-    if is_digit(b) { (b - b'0') as u64 } else { 0 }
+    if is_digit(b) { u64::from(b - b'0') } else { 0 }
 }
 
 // The number that a field's digits write. Nineteen are the most that always fit.
@@ -101,10 +84,8 @@ pub fn number(field: &[u8]) -> u64
     ensures upper_bound { result < 10 ^ length field.now }
 {
     let mut n = 0;
-    let mut i = 0;
-    while i < field.len() {
-        n = 10 * n + digit(field[i]);
-        i += 1;
+    for b in field {
+        n = 10 * n + digit(*b);
     }
     n
 }
@@ -114,11 +95,9 @@ pub fn decimal(n: u64, out: &mut [u8])
     ensures { out.new ≡ decimal (length out.old) n }
 {
     let mut rest = n;
-    let mut i = out.len();
-    while 0 < i {
-        i -= 1;
+    for i in (0..out.len()).rev() {
         out[i] = b'0' + (rest % 10) as u8;
-        rest = rest / 10;
+        rest /= 10;
     }
 }
 
@@ -128,11 +107,9 @@ pub fn is_decimal(n: u64, part: &[u8]) -> bool
 {
     let mut same = true;
     let mut rest = n;
-    let mut i = part.len();
-    while 0 < i {
-        i -= 1;
-        same = same & (part[i] == b'0' + (rest % 10) as u8);
-        rest = rest / 10;
+    for b in part.iter().rev() {
+        same = same & (*b == b'0' + (rest % 10) as u8);
+        rest /= 10;
     }
     same
 }
@@ -153,14 +130,10 @@ pub fn load_eight(part: &[u8]) -> u64
     ensures value { result ≡ word_of part.now }
     ensures result_value { bytes_of 8 result ≡ part.now }
 {
-    wide(part[0])
-        + wide(part[1]) * 256
-        + wide(part[2]) * 65536
-        + wide(part[3]) * 16777216
-        + wide(part[4]) * 4294967296
-        + wide(part[5]) * 1099511627776
-        + wide(part[6]) * 281474976710656
-        + wide(part[7]) * 72057594037927936
+    match <[u8; 8]>::try_from(part) {
+        Ok(bytes) => u64::from_le_bytes(bytes),
+        Err(_) => unreachable!(),
+    }
 }
 
 // Whether the bytes of a word are what stands there.
@@ -176,21 +149,7 @@ pub fn store_eight(x: u64, out: &mut [u8])
     requires { length out.old ≡ 8 }
     ensures { out.new ≡ bytes_of 8 x }
 {
-    out[0] = (x % 256) as u8;
-    let a = x / 256;
-    out[1] = (a % 256) as u8;
-    let b = a / 256;
-    out[2] = (b % 256) as u8;
-    let c = b / 256;
-    out[3] = (c % 256) as u8;
-    let d = c / 256;
-    out[4] = (d % 256) as u8;
-    let e = d / 256;
-    out[5] = (e % 256) as u8;
-    let f = e / 256;
-    out[6] = (f % 256) as u8;
-    let g = f / 256;
-    out[7] = (g % 256) as u8;
+    out.copy_from_slice(&x.to_le_bytes());
 }
 
 // The word of the digits of n + 1, from that of the digits of n. A last digit below 9 grows by one; a 9 becomes 0, and then the digits

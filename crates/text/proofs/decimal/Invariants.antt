@@ -7,6 +7,3 @@ use Rattle.text.proofs.decimal.Given as goal
 
 abbrev pub invariant-loop-i : goal.invariant-loop-i
 invariant-loop-i l = (l.i ≤ length l.out) × (length l.out ≡ length l.initial.out) × (decimal l.i l.rest ++ drop l.i l.out ≡ decimal (length l.initial.out) l.n)
-
-abbrev pub decreases-loop-i : goal.decreases-loop-i
-decreases-loop-i l = l.i

@@ -1,28 +1,16 @@
--- `text::filled` meets its contract: the bytes from i on decide.
-use native.Mathlib.Omega.{arith}
-use mathlib.Core.Path.{refl}
-use borrow.Author.Tests.{eq-eqb, ne_eqb}
+-- `text::filled` meets its contract: what `all` says of each byte.
 use lib.Dec.{eqb}
-use Rattle.text.proofs.Laws.{every-on, every-off, every-end}
+use borrow.Author.Tests.{tests}
+use Rattle.std.proofs.Common.{rules}
+use mathlib.Core.Path.{◌≡◌}
+use mathlib.Core.Bool.{true, false}
+use Rattle.std.proofs.lemmas.Iterator.{cases_from_all, YieldsList-from_slice}
+use Rattle.text.proofs.Laws.{every-answered}
 use Rattle.text.proofs.filled.Goals as goal
-
-pub loop-i-init : goal.loop-i-init
-loop-i-init c = (omega arith, refl)
-
-pub returns-then-field-i : goal.returns-then-field-i
-returns-then-field-i c =
-    let b = c.args.b in
-    let l = c.loop-i in
-    every-off (λ x. eqb x b) _ l.i l.invariant c.loop-i-test.true (ne_eqb _ b c.if-field-i.true)
-
-pub loop-i-preserved : goal.loop-i-preserved
-loop-i-preserved c =
-    let b = c.args.b in
-    let l = c.loop-i in
-    every-on (λ x. eqb x b) _ l.i l.invariant c.loop-i-test.true (eq-eqb _ b c.if-field-i.false)
 
 pub returns : goal.returns
 returns c =
     let b = c.args.b in
-    let l = c.loop-i in
-    every-end (λ x. eqb x b) _ l.i l.invariant c.loop-i-test.false
+    every-answered (λ x. eqb x b) _ _
+    (cases_from_all _ _ _ (λ x. eqb x b ≡ true) (λ x. eqb x b ≡ false) c.all.ensures.ran
+    (YieldsList-from_slice c.args.field.now (cc)) (λ x q k. search (rules, tests)) (λ x q k. search (rules, tests)))

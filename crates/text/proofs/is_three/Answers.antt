@@ -1,11 +1,12 @@
--- `text::is_three` meets its contract: another length is another field.
-use Rattle.text.proofs.Laws.{three-not, three-are}
+-- `text::is_three` meets its contract: slices are compared as the format compares bytes.
+use mathlib.Core.Path.{ap, ◌∙◌}
+use mathlib.Core.List.{List}
+use Prim.Native.Nat.{ℕ}
+use Rattle.format.specs.Bytes.{same_bytes}
+use Rattle.text.proofs.Laws.{sliced}
 use Rattle.text.proofs.is_three.Goals as goal
-
-pub returns-then-field-ne3 : goal.returns-then-field-ne3
-returns-then-field-ne3 c = let g = c.args in three-not g.a g.b g.c g.field.now c.if-field-ne3.true
 
 pub returns : goal.returns
 returns c =
-    let g = c.args in
-    three-are g.a g.b g.c g.field.now c.if-field-ne3.false
+    let field = c.args.field.now in
+    c.eq.ensures ∙ sliced field c.as_slice.result.now ∙ ap (λ (l : List ℕ). same_bytes field l) c.as_slice.ensures

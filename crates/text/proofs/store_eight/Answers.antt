@@ -1,32 +1,7 @@
--- `text::store_eight` meets its contract: eight stores in a row.
--- Assumes nothing.
-use native.Mathlib.Omega.{arith}
-use lib.ListN.{length-set}
-use Rattle.format.specs.Bytes.{bytes_of}
-use Rattle.text.proofs.Words.{stores}
+-- `text::store_eight` meets its contract: the bytes of a word are those that std takes it apart into.
+use mathlib.Core.Path.{◌∙◌}
+use Rattle.text.proofs.Words.{taken-apart}
 use Rattle.text.proofs.store_eight.Goals as goal
 
-pub bounds-out-1 : goal.bounds-out-1
-bounds-out-1 c = simp length-set (omega arith)
-
-pub bounds-out-2 : goal.bounds-out-2
-bounds-out-2 c = simp length-set (omega arith)
-
-pub bounds-out-3 : goal.bounds-out-3
-bounds-out-3 c = simp length-set (omega arith)
-
-pub bounds-out-4 : goal.bounds-out-4
-bounds-out-4 c = simp length-set (omega arith)
-
-pub bounds-out-5 : goal.bounds-out-5
-bounds-out-5 c = simp length-set (omega arith)
-
-pub bounds-out-6 : goal.bounds-out-6
-bounds-out-6 c = simp length-set (omega arith)
-
-pub bounds-out-7 : goal.bounds-out-7
-bounds-out-7 c = simp length-set (omega arith)
-
 pub returns : goal.returns
-unfolding bytes_of
-returns c = stores c.args.out.now c.args.x c.requires
+returns c = c.copy_from_slice.ensures.after ∙ c.to_le_bytes.ensures ∙ taken-apart c.args.x
