@@ -1,4 +1,5 @@
 -- Laws of text, of CR LF pairs and of lines, over plain lists and places in them. Assumes nothing.
+use Rattle.std.specs.Prelude.{Result, Ok, Err}
 use mathlib.Core.Path.{◌≡◌, refl, sym, ap, ◌∙◌}
 use mathlib.Core.Bool.{Bool, true, false, ◌&&◌, cond, and-true, and_assoc, and_comm, and_self_left, and-eq-true_iff, false≢true}
 use mathlib.Core.List.{[], ◌∷◌, ◌++◌, append-nil}
@@ -12,8 +13,6 @@ use lib.Seq.{take-suc, take-add, drop-cons, drop-drop}
 use Rattle.format.specs.Bytes.{Bytes, every, is_text, Text, begins_pair}
 use Rattle.format.specs.Lines.{Lines, good, bad, lines}
 use Rattle.format.proofs.Lines.{onto, lines_cons, lines_left, lines-fault}
-use Rattle.lines.specs.declared.Scan.{Scan}
-use Rattle.lines.specs.declared.Scan.TheVariants as scan
 use Rattle.lines.specs.Scan.{text_length, scanned}
 
 -- ---- a test of every byte
@@ -66,21 +65,20 @@ text-stops (a ∷ t) b f e = go (is_text a) refl (text-stops t b f) e
     go true h further q = further q
     go false h further q = cc
 
--- what the search for the end keeps: the text from i on ends at e
-abbrev pub EndsAt : Bytes → ℕ → ℕ → Type 0
-EndsAt f i e = (i ≤ length f) × (i + text_length (drop i f) ≡ e)
+-- how much text a list starts with, by its first byte
+pub length-stops : (b : ℕ) (t : Bytes) → is_text b ≡ false → text_length (b ∷ t) ≡ 0
+length-stops b t e = rw e
 
-module _ (f : Bytes) (i e : ℕ) (inv : EndsAt f i e) where
-  pub end_on : i < length f → is_text (get_or f i 0) ≡ true → EndsAt f (i + 1) e
-  end_on h t =
-      let more : text_length (drop i f) ≡ suc (text_length (drop (i + 1) f)) = rw (drop-cons f i 0, add-one, t) in
-      (omega arith, omega arith)
+pub length-goes : (b : ℕ) (t : Bytes) → is_text b ≡ true → text_length (b ∷ t) ≡ text_length t + 1
+length-goes b t e = rw e (omega arith)
 
-  pub end-here : i < length f → is_text (get_or f i 0) ≡ false → (i ≡ e) × (i ≤ length f)
-  end-here h t = let none : text_length (drop i f) ≡ 0 = rw (drop-cons f i 0, t) in (omega arith, inv.0)
-
-  pub end-last : length f ≤ i → (i ≡ e) × (i ≤ length f)
-  end-last h = let none : text_length (drop i f) ≡ 0 = rw (drop_of_length-le f) in (omega arith, inv.0)
+pub length-most : (t : Bytes) → text_length t ≤ length t
+length-most [] = omega arith
+length-most (b ∷ t) = go (is_text b) (length-most t)
+  where
+    go : (x : Bool) → text_length t ≤ length t → cond x (suc (text_length t)) 0 ≤ suc (length t)
+    go true h = omega arith
+    go false h = omega arith
 
 -- ---- CR LF pairs
 
@@ -139,17 +137,17 @@ line-fault t h e = go (drop (text_length t) t) refl
 -- ---- a scan over the lines of a file
 
 scanned-onto : (n : ℕ) (r : Bytes) (x : Lines) → scanned n (onto (r ∷ []) x) ≡ scanned (n + 1) x
-scanned-onto n r (good rs) = ap scan.Lines (omega arith)
-scanned-onto n r (bad k) = ap scan.Fault (omega arith)
+scanned-onto n r (good rs) = ap Ok (omega arith)
+scanned-onto n r (bad k) = ap Err (omega arith)
 
 -- what a scan keeps: the lines from i on, with n before them, decide its answer
-abbrev pub Decides : Bytes → ℕ → ℕ → Scan → Type 0
+abbrev pub Decides : Bytes → ℕ → ℕ → Result ℕ ℕ → Type 0
 Decides f i n answer = (i ≤ length f) × (n ≤ i) × (scanned n (lines (drop i f)) ≡ answer)
 
-module _ (f : Bytes) (i n : ℕ) (answer : Scan) (inv : Decides f i n answer) where
-  pub scan-end : length f ≤ i → scan.Lines n ≡ answer
+module _ (f : Bytes) (i n : ℕ) (answer : Result ℕ ℕ) (inv : Decides f i n answer) where
+  pub scan-end : length f ≤ i → Ok n ≡ answer
   unfolding lines
-  scan-end h = rw (← inv.2, drop_of_length-le f) (ap scan.Lines (omega arith))
+  scan-end h = rw (← inv.2, drop_of_length-le f) (ap Ok (omega arith))
 
   -- where the text from i on ends at j
   module _ (j : ℕ) (e : j ≡ i + text_length (drop i f)) where
@@ -162,7 +160,7 @@ module _ (f : Bytes) (i n : ℕ) (answer : Scan) (inv : Decides f i n answer) wh
         let first = line_first (text_length (drop i f)) (drop i f) (text-front (drop i f)) (rw rest-is h) in
         (pair_fits f j h, omega arith, rw (← inv.2, first, scanned-onto, drop-drop, rest))
 
-    pub scan-fault : i < length f → begins_pair (drop j f) ≡ false → scan.Fault n ≡ answer
+    pub scan-fault : i < length f → begins_pair (drop j f) ≡ false → Err n ≡ answer
     scan-fault h q =
         let fault = line-fault (drop i f) (omega (arith, length-drop i f)) (rw rest-is q) in
-        rw (← inv.2, fault) (ap scan.Fault (omega arith))
+        rw (← inv.2, fault) (ap Err (omega arith))

@@ -13,15 +13,13 @@ fn is_text(b: u8) -> bool
     b' ' <= b
 }
 
-// Whether each byte is text, byte by byte: for what is shorter than a block.
+// Whether each byte is text. With no branch on a byte, the compiler tests many at once where it knows how many there are.
 fn short_text(part: &[u8]) -> bool
     ensures { result ≡ every is_text part.now }
 {
     let mut good = true;
-    let mut i = 0;
-    while i < part.len() {
-        good = good & is_text(part[i]);
-        i += 1;
+    for b in part {
+        good &= is_text(*b);
     }
     good
 }
@@ -29,18 +27,12 @@ fn short_text(part: &[u8]) -> bool
 // How many bytes are tested at once.
 const BLOCK: usize = 32;
 
-// Whether the 32 bytes from a place on are text. With no branch on a byte, the compiler tests many at once.
+// Whether the 32 bytes from a place on are text.
 fn block_text(part: &[u8], at: usize) -> bool
     requires { at + 32 ≤ length part.now }
     ensures { result ≡ every is_text (take 32 (drop at part.now)) }
 {
-    let mut good = true;
-    let mut k = 0;
-    while k < BLOCK {
-        good = good & is_text(part[at + k]);
-        k += 1;
-    }
-    good
+    short_text(&part[at..at + BLOCK])
 }
 
 // Whether each byte is text, in blocks of 32, of which the last two may overlap.
@@ -79,25 +71,13 @@ pub fn text_end(file: &[u8], at: usize) -> usize
     ensures value { result ≡ at + text_length (drop at file.now) }
     ensures upper_bound { result ≤ length file.now }
 {
-    let mut i = at;
-    while i < file.len() {
-        if !is_text(file[i]) {
-            return i;
-        }
-        i += 1;
-    }
-    i
+    let rest = &file[at..];
+    at + rest.iter().position(|b| !is_text(*b)).unwrap_or(rest.len())
 }
 
-// The number of all lines, or of those before the fault.
-#[derive(Clone, Copy)]
-pub enum Scan {
-    Lines(usize),
-    Fault(usize),
-}
-
-// The lines from a place on, with so many before it. Each has two bytes at least, so their number fits.
-pub fn lines_from(file: &[u8], at: usize, before: usize) -> Scan
+// How many lines there are from a place on, with so many before it; an error is how many there are before the fault. Each has two bytes at
+// least, so their number fits.
+pub fn lines_from(file: &[u8], at: usize, before: usize) -> Result<usize, usize>
     requires { (at ≤ length file.now) × (before ≤ at) }
     ensures { result ≡ scanned before (lines (drop at file.now)) }
 {
@@ -109,8 +89,8 @@ pub fn lines_from(file: &[u8], at: usize, before: usize) -> Scan
             n += 1;
             i = end + 2;
         } else {
-            return Scan::Fault(n);
+            return Err(n);
         }
     }
-    Scan::Lines(n)
+    Ok(n)
 }

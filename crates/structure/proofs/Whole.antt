@@ -4,6 +4,7 @@ use native.Mathlib.Omega.{arith}
 use mathlib.Core.Path.{◌≡◌, refl, sym, ap, ◌∙◌}
 use mathlib.Core.Bool.{Bool, true, false, cond, false≢true}
 use mathlib.Core.List.{[], ◌∷◌}
+use Rattle.std.specs.Prelude.{Result, Ok, Err}
 use lib.ListN.{length, take}
 use lib.Dec.{leb}
 use borrow.Author.Tests.{le-leb, lt-leb}
@@ -16,27 +17,26 @@ use Rattle.format.specs.Structure.{Answer, refused, refusal, unless, most_bytes,
 use Rattle.format.specs.Numbering.{numbering, records_in}
 use Rattle.format.proofs.Tests.{by_cases}
 use Rattle.lines.specs.Scan.{text_length, scanned}
-use Rattle.lines.specs.declared.Scan.TheVariants as scan
 use Rattle.structure.specs.Rest.{faultless, judged_from, lines_from, rest_from, is_good}
 use Rattle.structure.proofs.Rest.{whole, structure-whole, numbering-whole}
 use Rattle.structure.proofs.Here.{good-first}
 
 -- ---- 4 and 5, by what the scan over the lines answers
 
-never : (a b : ℕ) → scan.Lines a ≡ scan.Fault b → ⊥
+never : (a b : ℕ) → ◌≡◌ {A = Result ℕ ℕ} (Ok a) (Err b) → ⊥
 never a b e = let z : ◌≡◌ {A = ℕ} 0 1 = cc in omega arith
 
 module _ (asked version : Bool) (p : Class) (n : Counts) (i : ℕ) (e : i ≡ n.records) where
-  pub lines-fault : (ls : Lines) (k : ℕ) → scanned i ls ≡ scan.Fault k → refused 4 k ≡ lines_from cwr22 asked version p n ls
+  pub lines-fault : (ls : Lines) (k : ℕ) → scanned i ls ≡ Err k → refused 4 k ≡ lines_from cwr22 asked version p n ls
   unfolding lines_from
   lines-fault (good rs) k q = absurd (never (i + length rs) k q)
   lines-fault (bad j) k q = let s : i + j ≡ k = cc in ap (refused 4) (omega (arith, e))
 
-  pub lines-good : (ls : Lines) (k : ℕ) → scanned i ls ≡ scan.Lines k → is_good ls ≡ true
+  pub lines-good : (ls : Lines) (k : ℕ) → scanned i ls ≡ Ok k → is_good ls ≡ true
   lines-good (good rs) k q = refl
   lines-good (bad j) k q = absurd (never k (i + j) (sym q))
 
-  pub lines-many : (ls : Lines) (k : ℕ) → scanned i ls ≡ scan.Lines k → most_records < k
+  pub lines-many : (ls : Lines) (k : ℕ) → scanned i ls ≡ Ok k → most_records < k
       → refused 5 most_records ≡ lines_from cwr22 asked version p n ls
   unfolding lines_from
   lines-many (good rs) k q h =
@@ -44,7 +44,7 @@ module _ (asked version : Bool) (p : Class) (n : Counts) (i : ℕ) (e : i ≡ n.
       rw (lt-leb (n.records + length rs) most_records (omega (arith, e)))
   lines-many (bad j) k q h = absurd (never k (i + j) (sym q))
 
-  pub lines-few : (ls : Lines) (k : ℕ) → scanned i ls ≡ scan.Lines k → k ≤ most_records
+  pub lines-few : (ls : Lines) (k : ℕ) → scanned i ls ≡ Ok k → k ≤ most_records
       → judged_from cwr22 asked version faultless p n (records_in ls) ≡ lines_from cwr22 asked version p n ls
   unfolding lines_from
   lines-few (good rs) k q h =

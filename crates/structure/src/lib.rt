@@ -19,7 +19,6 @@ ghost use Rattle.structure.specs.Walk.{Roomy, Bounded, Stood, RightAt, Next, fau
 use answers::{Answer, MOST_RECORDS};
 use counts::Counts;
 use kinds::{DETAIL, GRH, GRT, HDR, HEAD, Row, TRL, UNKNOWN};
-use lines::Scan;
 
 // Where a walk stands: at a byte of the file, after a record of that class, with these counts.
 #[derive(Clone, Copy)]
@@ -240,8 +239,8 @@ fn scan(file: &[u8], asked: bool, version: bool, s: Stand) -> Answer
 {
     let counts = s.counts;
     match lines::lines_from(file, s.at, index(counts.records)) {
-        Scan::Fault(n) => Answer::Line(n),
-        Scan::Lines(n) => {
+        Err(n) => Answer::Line(n),
+        Ok(n) => {
             if MOST_RECORDS < n {
                 Answer::Many
             } else {

@@ -20,24 +20,24 @@ judge-requires c =
       c.requires.1,
       lines-good g.asked g.version (class_at g.s.class) (counts_in g.s.counts)
           c.index.result c.index.ensures (lines (drop g.s.at g.file.now)) _
-          (sym c.lines_from.ensures ∙ c.in-Lines.is),
+          (sym c.lines_from.ensures ∙ c.in-Ok.is),
     )
 
-pub returns-in-Fault : goal.returns-in-Fault
-returns-in-Fault c =
+pub returns-in-Err : goal.returns-in-Err
+returns-in-Err c =
     let g = c.args in
     lines-fault g.asked g.version (class_at g.s.class) (counts_in g.s.counts) c.index.result c.index.ensures
-    (lines (drop g.s.at g.file.now)) _ (sym c.lines_from.ensures ∙ c.in-Fault.is)
+    (lines (drop g.s.at g.file.now)) _ (sym c.lines_from.ensures ∙ c.in-Err.is)
 
 pub returns-then-n-gt-MOST_RECORDS : goal.returns-then-n-gt-MOST_RECORDS
 returns-then-n-gt-MOST_RECORDS c =
     let g = c.args in
     lines-many g.asked g.version (class_at g.s.class) (counts_in g.s.counts) c.index.result c.index.ensures
-    (lines (drop g.s.at g.file.now)) _ (sym c.lines_from.ensures ∙ c.in-Lines.is) c.if-n-gt-MOST_RECORDS.true
+    (lines (drop g.s.at g.file.now)) _ (sym c.lines_from.ensures ∙ c.in-Ok.is) c.if-n-gt-MOST_RECORDS.true
 
 pub returns-else-n-gt-MOST_RECORDS : goal.returns-else-n-gt-MOST_RECORDS
 returns-else-n-gt-MOST_RECORDS c =
     let g = c.args in
     c.judge.ensures ∙ lines-few g.asked g.version (class_at g.s.class) (counts_in g.s.counts) c.index.result
-    c.index.ensures (lines (drop g.s.at g.file.now)) _ (sym c.lines_from.ensures ∙ c.in-Lines.is)
+    c.index.ensures (lines (drop g.s.at g.file.now)) _ (sym c.lines_from.ensures ∙ c.in-Ok.is)
     c.if-n-gt-MOST_RECORDS.false
