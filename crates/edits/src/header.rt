@@ -9,6 +9,7 @@ ghost use Rattle.edits.specs.Kinds.{HeaderRecord};
 ghost use Rattle.edits.specs.Judged.{Judged};
 
 use super::Found;
+use tables::Table;
 
 // ---- fields
 
@@ -80,7 +81,7 @@ fn found_17(record: &[u8], slots: &tables::Slots) -> bool
     if text::blank(code) {
         return false;
     }
-    !tables::has_language(slots, code)
+    !tables::has(slots, Table::Languages, code)
 }
 
 // Work number blank.
@@ -115,7 +116,7 @@ fn found_21(record: &[u8], slots: &tables::Slots) -> bool
     ensures { (tables : Tables) → Indexed tables slots.now → result ≡ is21 tables «record».now }
 {
     let code = category(record);
-    text::blank(code) | !tables::has_category(slots, code)
+    text::blank(code) | !tables::has(slots, Table::Categories, code)
 }
 
 // Whether the category is SER.

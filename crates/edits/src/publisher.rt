@@ -14,6 +14,7 @@ ghost use Rattle.edits.specs.Readings.{PublisherReads, FindsPublisher, Below100,
 ghost use Rattle.edits.specs.Judged.{Judged};
 
 use super::{Found, is_code, read_shares};
+use tables::Table;
 use totals::Rights;
 use values::Share;
 
@@ -317,7 +318,7 @@ fn is_strange(code: &[u8], slots: &tables::Slots) -> bool
     if text::blank(code) {
         return false;
     }
-    !tables::has_society(slots, code)
+    !tables::has(slots, Table::Societies, code)
 }
 
 fn found_36(record: &[u8], slots: &tables::Slots) -> bool

@@ -8,8 +8,10 @@ use lib.ListN.{length, get_or, set}
 use lib.Seq.{get_or-set_same}
 use Rattle.format.specs.Bytes.{Bytes, same_bytes, among}
 use Rattle.format.proofs.Tests.{by_cases, same→eq}
-use Rattle.rules.specs.Tables.{most_entries}
-use Rattle.tables.specs.Index.{hint_count, part_size, slot_count, key_of, hint_of, Code, KeyOfAny, Empty, Free, Ascending, Stands, Kept, Inserted, Part}
+use Rattle.rules.specs.Tables.{Tables, most_entries, entries}
+use Rattle.tables.specs.declared.Table.{Table}
+use Rattle.tables.specs.Which.{size_of, table_of, first_of}
+use Rattle.tables.specs.Index.{hint_count, part_size, slot_count, key_of, hint_of, Code, KeyOfAny, Empty, Free, Ascending, Stands, Kept, Inserted, Part, Indexed}
 use Rattle.tables.proofs.Entries.{key-not-0, zero-key, first_key, later-key}
 use Rattle.tables.proofs.Slots.{by_less, kept_set, after-set, kept-all, kept_on}
 use Rattle.tables.proofs.Slots.{inserted-kept, inserted-each, inserted-itself, inserted-others, inserted-ascending}
@@ -135,6 +137,12 @@ part_stays size es first from end old slots h kept part =
     same p b = kept.same p (λ a c. omega arith)
 
 -- ---- the part is asked
+
+pub part_of : (table : Table) (lent : Tables) (first : ℕ) (slots : List ℕ) → first ≡ first_of table → Indexed lent slots
+    → Part (size_of table) (entries (size_of table) (table_of table lent)) first slots
+part_of Table.Languages lent first slots e i = rw e i.of_languages
+part_of Table.Societies lent first slots e i = rw e i.of_societies
+part_of Table.Categories lent first slots e i = rw e i.of_categories
 
 module _ (size : ℕ) (es : List Bytes) (first : ℕ) (slots : List ℕ) (part : Part size es first slots) (code : Bytes) where
   -- the code's key in any slot

@@ -1,14 +1,19 @@
--- Slots: one written, a key inserted, and a key searched by halving.
+-- Slots: one written, a key inserted, and a key searched.
 use Prim.Native.Nat.{ℕ, zero, suc, ◌+◌, ◌-◌, ◌<◌, ◌≤◌}
-use mathlib.Core.Path.{◌≡◌, refl, ap, ◌∙◌}
-use mathlib.Core.Bool.{Bool, true, false, cond}
+use mathlib.Core.Path.{sym, ◌≡◌, refl, ap, ◌∙◌}
+use mathlib.Core.Bool.{false≢true, true}
 use mathlib.Core.List.{List}
 use native.Mathlib.Numerals.{add-one}
 use native.Mathlib.Omega.{arith}
-use borrow.Author.Tests.{ltb-true, ltb-false, eqb-true, eqb-false, eq-eqb}
+use borrow.Author.Tests.{ltb-true, ltb-false, eqb-true, eqb-false}
 use lib.Dec.{ltb, eqb}
-use lib.ListN.{length, get_or, set, replicate, length-set, length-replicate, get_or-replicate}
-use lib.Seq.{get_or-set_same, get_or-set_other}
+use lib.ListN.{length, get_or, set, take, drop, length-take, length-drop, replicate, length-set, length-replicate, get_or-replicate}
+use lib.Seq.{get_or-take, get_or-drop, get_or-set_same, get_or-set_other}
+use Rattle.std.specs.Ordering.{nat_cmp}
+use Rattle.std.specs.Prelude.{Result, Ok, Err, is_ok}
+use Rattle.std.specs.List.Sorted.{IsBinarySearchResult, IsSearchInRange}
+use Rattle.std.proofs.lemmas.List.Sorted.{searched}
+use Rattle.std.proofs.lemmas.Map.Lookups.{exact_unsigned}
 use Rattle.format.proofs.Tests.{by_cases}
 use Rattle.rules.specs.Tables.{most_entries}
 use Rattle.tables.specs.Index.{slot_count, Free, Ascending, Stands, Kept, Inserted}
@@ -147,7 +152,7 @@ module _ (key from end : ℕ) (old slots : List ℕ) (new : Inserted key from en
       (λ e. rw (rest (p + 1) (omega arith), e, new.is) (new.higher (omega arith)))
       (λ g. rw (rest p g, rest (p + 1) (omega arith)) (up p (omega (arith, new.after)) b))
 
--- ---- searched by halving: a key that stands among the sorted stands within the width from a slot on
+-- ---- the sorted keys are searched
 
 climbs : (first end : ℕ) (slots : List ℕ) → Ascending first end slots → (p q : ℕ) → first ≤ p → p ≤ q → q < end
     → get_or slots p 0 ≤ get_or slots q 0
@@ -158,56 +163,36 @@ climbs first end slots up p (suc q) a b c =
     let step : get_or slots q 0 ≤ get_or slots (suc q) 0 = rw add-one at (up q (omega arith) (omega arith)) in
     omega (arith, climbs first end slots up p q a l (omega arith)))
 
-module _ (key first : ℕ) (slots : List ℕ) where
-  pub record Within (low width : ℕ) : Type 0 where
-    pub some : 0 < width
-    pub after : first ≤ low
-    pub before : low + width ≤ first + most_entries
-    pub here : Ascending first (first + most_entries) slots → Stands key first (first + most_entries) slots → Stands key low (low + width) slots
+module _ (key first width : ℕ) (slots : List ℕ) (all : width ≡ most_entries) (room : first + most_entries ≤ length slots) where
+  abbrev part : List ℕ
+  part = take width (drop first slots)
 
-  pub halve-start : Within first most_entries
-  halve-start = record { some = omega arith; after = omega arith; before = omega arith; here = λ up s. s }
+  abbrev Says : Result ℕ ℕ → Type 0
+  Says r = IsBinarySearchResult (λ y. nat_cmp y key) part r
 
-  module _ (low width half middle : ℕ) (w : Within low width) (halves : (0 < half) × (half + half ≤ width)) (is : middle + 1 ≡ low + half) where
-    -- with a lower key in the middle it stands after that one, else there or before
-    pub halve-on : (b : Bool) → ltb (get_or slots middle 0) key ≡ b → Within (cond b (low + half) low) (width - half)
-    halve-on true e =
-        record {
-          some = omega (arith, halves);
-          after = omega (arith, w.after);
-          before = omega (arith, w.before, halves);
-          here =
-              λ up s.
-              let t = w.here up s in
-              by_less t.slot (low + half)
-              (λ l.
-              let climb = climbs first _ slots up t.slot middle (omega (arith, t.after, w.after)) (omega arith) (omega (arith, w.before, halves)) in
-              absurd (omega (arith, ltb-true (get_or slots middle 0) key e, t.is)))
-              (λ l. record { slot = t.slot; after = l; before = omega (arith, t.before, halves); is = t.is });
-        }
-    halve-on false e =
-        record {
-          some = omega (arith, halves);
-          after = w.after;
-          before = omega (arith, w.before, halves);
-          here =
-              λ up s.
-              let t = w.here up s in
-              by_less t.slot (low + half)
-              (λ l. record { slot = t.slot; after = t.after; before = omega (arith, halves); is = t.is })
-              (λ l.
-              let climb = climbs first _ slots up middle t.slot (omega (arith, w.after, halves)) (omega arith) (omega (arith, t.before, w.before)) in
-              record {
-                slot = middle;
-                after = omega (arith, halves);
-                before = omega (arith, halves);
-                is = omega (arith, ltb-false (get_or slots middle 0) key e, t.is);
-              });
-        }
+  part-length : length part ≡ width
+  part-length = simp (length-take, length-drop) (omega arith)
 
-  pub halve-end : (low width : ℕ) → Within low width → width ≤ 1 → Ascending first (first + most_entries) slots
-      → Stands key first (first + most_entries) slots → eqb (get_or slots low 0) key ≡ true
-  halve-end low width w h up s =
-      let t = w.here up s in
-      let e : t.slot ≡ low = omega (arith, t.after, t.before, w.some) in
-      eq-eqb _ _ (rw e at t.is)
+  part-at : (i : ℕ) → i < width → get_or part i 0 ≡ get_or slots (first + i) 0
+  part-at i h = get_or-take width (drop first slots) i 0 h ∙ get_or-drop first slots i 0
+
+  pub search_stands : (r : Result ℕ ℕ) → IsSearchInRange r (length part) → Says r → is_ok r ≡ true → Stands key first (first + most_entries) slots
+  search_stands (Ok i) bound says ok =
+      let h : i < width = omega (arith, part-length) in
+      record { slot = first + i; after = omega arith; before = omega arith; is = sym (part-at i h) ∙ exact_unsigned _ _ (says 0) }
+  search_stands (Err i) bound says ok = absurd (false≢true ok)
+
+  rises : Ascending first (first + most_entries) slots → (i j : ℕ) → i ≤ j → j < length part → get_or part i 0 ≤ get_or part j 0
+  rises up i j h l =
+      let small : j < width = omega (arith, part-length) in
+      rw (part-at i (omega arith), part-at j small) (climbs first _ slots up (first + i) (first + j) (omega arith) (omega arith) (omega arith))
+
+  pub search_found : (r : Result ℕ ℕ) → Says r → Ascending first (first + most_entries) slots → Stands key first (first + most_entries) slots → is_ok r ≡ true
+  search_found (Ok i) says up s = refl
+  search_found (Err i) says up s =
+      let k = s.slot - first in
+      let back : first + k ≡ s.slot = omega (arith, s.after) in
+      let small : k < width = omega (arith, s.before) in
+      let here : get_or part k 0 ≡ key = part-at k small ∙ ap (λ p. get_or slots p 0) back ∙ s.is in
+      let found = searched part key (Err i) says (rises up) in
+      by_less k i (λ l. absurd (omega (arith, found.1 k l))) (λ l. absurd (omega (arith, found.2 k l (omega (arith, part-length)))))

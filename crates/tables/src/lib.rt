@@ -7,6 +7,7 @@ ghost use Rattle.format.specs.Bytes.{Bytes, among};
 ghost use Rattle.rules.specs.Tables.{Tables as LentTables, tables_of, language_size, society_size, category_size, most_entries, right_table, entries, is_in};
 ghost use Rattle.tables.specs.Index.{hint_count, part_size, slot_count, key_of, hint_of, AreBytes, Free, Ascending, Stands, Kept, Inserted};
 ghost use Rattle.tables.specs.Index.{Part, Indexed};
+ghost use Rattle.tables.specs.Which.{lent_in, size_of, table_of, first_of};
 
 // The tables that a caller lends for a run.
 #[derive(Clone, Copy)]
@@ -14,6 +15,14 @@ pub struct Tables<'a> {
     pub languages: &'a [u8],
     pub societies: &'a [u8],
     pub categories: &'a [u8],
+}
+
+// Which of them.
+#[derive(Clone, Copy)]
+pub enum Table {
+    Languages,
+    Societies,
+    Categories,
 }
 
 // How many bytes an entry of each table has.
@@ -55,19 +64,11 @@ fn entry(table: &[u8], size: usize, k: usize) -> &[u8]
     ensures result_value { result.now ≡ take size (drop (size * k) table.now) }
     ensures result_len { length result.now ≡ size }
 {
-    let a = size * k;
-    let e = a + size;
-    &table[a..e]
+    let start = size * k;
+    &table[start..start + size]
 }
 
 // ---- codes
-
-fn wide(b: u8) -> u32
-    ensures value { result ≡ b }
-    ensures upper_bound { result < 256 }
-{
-    b as u32
-}
 
 // The number that stands for a code; of two bytes the second is also the last.
 fn key(code: &[u8]) -> u32
@@ -76,7 +77,7 @@ fn key(code: &[u8]) -> u32
     ensures are_bytes { AreBytes code.now }
 {
     let last = code.len() - 1;
-    (wide(code[0]) * 256 + wide(code[1])) * 256 + wide(code[last]) + 1
+    (u32::from(code[0]) * 256 + u32::from(code[1])) * 256 + u32::from(code[last]) + 1
 }
 
 // Which hint is a key's. No two codes of three digits, or of two letters, have the same: a prime sees to that.
@@ -94,16 +95,15 @@ fn insert(slots: &mut Slots, key: u32, from: usize, end: usize)
     requires { (from < end) × (end ≤ slot_count) × (length slots.old ≡ slot_count) }
     ensures { Inserted key from end slots.old slots.new }
 {
-    let mut i = from;
-    while i + 1 < end {
+    for i in from..end - 1 {
         let next = slots[i + 1];
         if key <= next {
-            break;
+            slots[i] = key;
+            return;
         }
         slots[i] = next;
-        i += 1;
     }
-    slots[i] = key;
+    slots[end - 1] = key;
 }
 
 // Makes the index of a right table in the part that begins at that slot; from there on the slots are empty. The last entry comes first, so
@@ -116,59 +116,78 @@ fn index_table(slots: &mut Slots, first: usize, table: &[u8], size: usize)
     ensures free { Free (first + part_size) slots.new }
 {
     let end = first + PART;
-    let mut k = table.len() / size;
-    let free = end - k;
-    while 0 < k {
-        k -= 1;
-        let code = entry(table, size, k);
-        let new = key(code);
-        let at = first + hint(new);
-        slots[at] = new;
+    let count = table.len() / size;
+    let free = end - count;
+    for k in (0..count).rev() {
+        let new = key(entry(table, size, k));
+        slots[first + hint(new)] = new;
         insert(slots, new, free + k, end);
     }
 }
 
-// Makes the index of the right tables in slots that are all empty.
+impl Tables<'_> {
+    // Makes the index of right tables in slots that are all empty.
+    pub fn index(self, slots: &mut Slots)
+        requires { (right_table language_size self.languages.now ≡ true) × (right_table society_size self.societies.now ≡ true)
+            × (right_table category_size self.categories.now ≡ true) × (slots.old ≡ replicate slot_count 0) }
+        ensures { Indexed (lent_in self.entry) slots.new }
+    {
+        index_table(slots, 0, self.languages, LANGUAGE);
+        index_table(slots, SOCIETIES, self.societies, SOCIETY);
+        index_table(slots, CATEGORIES, self.categories, CATEGORY);
+    }
+}
+
+// The same of three tables, each by itself.
 pub fn index(languages: &[u8], societies: &[u8], categories: &[u8], slots: &mut Slots)
     requires { (right_table language_size languages.now ≡ true) × (right_table society_size societies.now ≡ true)
         × (right_table category_size categories.now ≡ true) × (slots.old ≡ replicate slot_count 0) }
     ensures { Indexed (tables_of languages.now societies.now categories.now) slots.new }
 {
-    index_table(slots, 0, languages, LANGUAGE);
-    index_table(slots, SOCIETIES, societies, SOCIETY);
-    index_table(slots, CATEGORIES, categories, CATEGORY);
+    let tables = Tables {
+        languages,
+        societies,
+        categories,
+    };
+    tables.index(slots);
 }
 
 // ---- the index is asked
 
-// Whether a key is among the sorted ones from that slot on: the width in which it can be is halved, ten times.
+// Whether a key is among the sorted ones from that slot on.
 fn listed(slots: &Slots, first: usize, key: u32) -> bool
     requires { first + most_entries ≤ slot_count }
     ensures stands { result ≡ true → Stands key first (first + most_entries) slots.now }
     ensures value { Ascending first (first + most_entries) slots.now → Stands key first (first + most_entries) slots.now
         → result ≡ true }
 {
-    let mut low = first;
-    let mut width = ENTRIES;
-    while 1 < width {
-        let half = width / 2;
-        let next = low + half;
-        low = choice::index(slots[next - 1] < key, next, low);
-        width -= half;
-    }
-    slots[low] == key
+    let sorted = &slots[first..first + ENTRIES];
+    sorted.binary_search(&key).is_ok()
 }
 
-// Whether a code is among the entries whose index is the part that begins at that slot. Nearly always its hint says so: it is empty, or the
-// code's own key; only where another code has the same hint the sorted keys are searched.
-fn has(slots: &Slots, first: usize, code: &[u8]) -> bool
-    requires { (2 ≤ length code.now) × (first + part_size ≤ slot_count) }
-    ensures { (size : ℕ) (es : List Bytes) → length code.now ≡ size → Part size es first slots.now
-        → result ≡ among code.now es }
+impl Table {
+    // Where its part of the slots begins.
+    fn first(self) -> usize
+        ensures value { result ≡ first_of self }
+        ensures in_slots { result + part_size ≤ slot_count }
+    {
+        match self {
+            Table::Languages => 0,
+            Table::Societies => SOCIETIES,
+            Table::Categories => CATEGORIES,
+        }
+    }
+}
+
+// Whether a code is in a table. Nearly always its hint says so: it is empty, or the code's own key; only where another code has the same hint
+// the sorted keys are searched.
+pub fn has(slots: &Slots, table: Table, code: &[u8]) -> bool
+    requires { length code.now ≡ size_of table }
+    ensures { (lent : LentTables) → Indexed lent slots.now → result ≡ is_in (size_of table) (table_of table lent) code.now }
 {
+    let first = table.first();
     let wanted = key(code);
-    let at = first + hint(wanted);
-    let hinted = slots[at];
+    let hinted = slots[first + hint(wanted)];
     if hinted == 0 {
         return false;
     }
@@ -176,25 +195,4 @@ fn has(slots: &Slots, first: usize, code: &[u8]) -> bool
         return true;
     }
     listed(slots, first + HINTS, wanted)
-}
-
-pub fn has_language(slots: &Slots, code: &[u8]) -> bool
-    requires { length code.now ≡ language_size }
-    ensures { (lent : LentTables) → Indexed lent slots.now → result ≡ is_in language_size lent.languages code.now }
-{
-    has(slots, 0, code)
-}
-
-pub fn has_society(slots: &Slots, code: &[u8]) -> bool
-    requires { length code.now ≡ society_size }
-    ensures { (lent : LentTables) → Indexed lent slots.now → result ≡ is_in society_size lent.societies code.now }
-{
-    has(slots, SOCIETIES, code)
-}
-
-pub fn has_category(slots: &Slots, code: &[u8]) -> bool
-    requires { length code.now ≡ category_size }
-    ensures { (lent : LentTables) → Indexed lent slots.now → result ≡ is_in category_size lent.categories code.now }
-{
-    has(slots, CATEGORIES, code)
 }

@@ -1,19 +1,24 @@
 -- `tables::has` meets its contract.
-use native.Mathlib.Omega.{arith}
 use mathlib.Core.Path.{◌∙◌}
-use Rattle.tables.proofs.Parts.{found, no-hint, searched}
+use native.Mathlib.Omega.{arith}
+use Rattle.rules.specs.Tables.{is_in}
+use Rattle.tables.proofs.Parts.{found, no-hint, searched, part_of}
 use Rattle.tables.proofs.has.Goals as goal
 
 pub returns-then-hinted-eq0 : goal.returns-then-hinted-eq0
-returns-then-hinted-eq0 c size es long part =
-    no-hint size es _ _ part _ (rw (← c.key-wanted.ensures.value, ← c.hint.ensures.value) c.if-hinted-eq0.true)
+unfolding is_in
+returns-then-hinted-eq0 c lent indexed =
+    no-hint _ _ _ _ (part_of c.args.table lent _ _ c.first-first.ensures.value indexed) _
+    (rw (← c.key-wanted.ensures.value, ← c.hint.ensures.value) c.if-hinted-eq0.true)
 
 pub returns-then-hinted-wanted : goal.returns-then-hinted-wanted
-returns-then-hinted-wanted c size es long part =
-    found size es _ _ part _ (record { long = long; bytes = c.key-wanted.ensures.are_bytes }) _ (omega arith) (omega (arith, c.hint.ensures.upper_bound))
-    (c.if-hinted-wanted.true ∙ c.key-wanted.ensures.value)
+unfolding is_in
+returns-then-hinted-wanted c lent indexed =
+    found _ _ _ _ (part_of c.args.table lent _ _ c.first-first.ensures.value indexed) _ (record { long = c.requires; bytes = c.key-wanted.ensures.are_bytes }) _
+    (omega arith) (omega (arith, c.hint.ensures.upper_bound)) (c.if-hinted-wanted.true ∙ c.key-wanted.ensures.value)
 
 pub returns : goal.returns
-returns c size es long part =
-    searched size es _ _ part _ _ c.key-wanted.ensures.value (record { long = long; bytes = c.key-wanted.ensures.are_bytes }) _
-    c.listed.ensures.stands c.listed.ensures.value
+unfolding is_in
+returns c lent indexed =
+    searched _ _ _ _ (part_of c.args.table lent _ _ c.first-first.ensures.value indexed) _ _ c.key-wanted.ensures.value
+    (record { long = c.requires; bytes = c.key-wanted.ensures.are_bytes }) _ c.listed.ensures.stands c.listed.ensures.value

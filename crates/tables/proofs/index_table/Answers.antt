@@ -25,8 +25,8 @@ loop-k-init c =
           (enter-start g.size g.first g.slots.now c.requires.part_size_bound.0 c.requires.part_size_bound.1),
     )
 
-pub entry-code-requires : goal.entry-code-requires
-entry-code-requires c =
+pub entry-requires : goal.entry-requires
+entry-requires c =
     let g = c.args in
     let l = c.loop-k in
     within g.size g.table.now (l.k - 1) (omega (arith, l.invariant.0))
@@ -44,7 +44,7 @@ loop-k-preserved c =
     let free = g.first + part_size - length g.table.now / g.size in
     let up : k + 1 ≡ l.k = omega arith in
     let over : free + k + 1 ≡ free + l.k = omega arith in
-    let code = c.entry-code.ensures in (
+    let code = c.entry.ensures in (
       omega (arith, l.invariant.0),
       l.invariant.1,
       rw (from_on g.size g.table.now k (omega (arith, l.invariant.0)), ← code.result_value)

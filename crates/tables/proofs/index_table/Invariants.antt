@@ -7,6 +7,3 @@ use Rattle.tables.proofs.index_table.Given as goal
 
 abbrev pub invariant-loop-k : goal.invariant-loop-k
 invariant-loop-k l = (l.k ≤ length l.table / l.size) × (length l.table / l.size ≤ most_entries) × Entered l.size l.first l.initial.slots (entries_from l.size l.k l.table) (l.free + l.k) l.slots
-
-abbrev pub decreases-loop-k : goal.decreases-loop-k
-decreases-loop-k l = l.k

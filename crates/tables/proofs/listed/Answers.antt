@@ -1,24 +1,15 @@
--- `tables::listed` meets its contract: a key that stands among the sorted stands within the width.
-use Prim.Native.Nat.{◌/◌}
-use mathlib.Core.Path.{refl}
+-- `tables::listed` meets its contract: what the library's search says of the part, said of the slots.
+use Prim.Native.Nat.{◌+◌, ◌-◌}
+use mathlib.Core.Path.{sym, ◌∙◌}
 use native.Mathlib.Omega.{arith}
-use native.Mathlib.Nat.{mul-div-le}
-use borrow.Author.Tests.{eqb-true}
-use Rattle.tables.proofs.Slots.{halve-start, halve-on, halve-end}
+use Rattle.tables.proofs.Slots.{search_stands, search_found}
 use Rattle.tables.proofs.listed.Goals as goal
 
-pub loop-width-init : goal.loop-width-init
-loop-width-init c = halve-start _ _ _
+pub returns-clause-stands : goal.returns-clause-stands
+returns-clause-stands c t =
+    search_stands _ c.args.first _ c.args.slots.now (omega arith) (omega arith) _ c.binary_search.ensures.bound c.binary_search.ensures.position
+    (sym c.is_ok.ensures.value ∙ t)
 
-pub loop-width-preserved : goal.loop-width-preserved
-loop-width-preserved c =
-    let l = c.loop-width in
-    let g = c.args in
-    rw c.index-low.ensures
-    (halve-on g.key g.first g.slots.now l.low l.width (l.width / 2) _ l.invariant (omega arith, omega (arith, mul-div-le l.width 2))
-    (omega arith) _ refl)
-
-pub returns : goal.returns
-returns c =
-    let l = c.loop-width in
-    let g = c.args in record { stands = λ t. record { slot = l.low; after = l.invariant.after; before = omega (arith, l.invariant.before, l.invariant.some); is = eqb-true _ _ t }; value = halve-end g.key g.first g.slots.now l.low l.width l.invariant (omega arith) }
+pub returns-clause-value : goal.returns-clause-value
+returns-clause-value c up s =
+    c.is_ok.ensures.value ∙ search_found _ c.args.first (c.args.first + 1024 - c.args.first) c.args.slots.now (omega arith) (omega arith) _ c.binary_search.ensures.position up s

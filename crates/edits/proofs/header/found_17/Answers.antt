@@ -18,4 +18,4 @@ returns c tables i =
     let f = c.language-code in
     let entered : is_blank (language c.args.record.now) ≡ false =
     ap is_blank (sym f.ensures.0) ∙ sym c.blank.ensures ∙ c.if-blank.false in
-    rw (c.requires.1, c.has_language.ensures tables i, f.ensures.0, entered)
+    rw (c.requires.1, c.has.ensures tables i, f.ensures.0, entered)

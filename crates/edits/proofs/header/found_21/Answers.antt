@@ -5,4 +5,4 @@ use Rattle.edits.proofs.header.found_21.Goals as goal
 pub returns : goal.returns
 unfolding is21
 returns c tables i =
-    rw (c.requires.1, c.blank.ensures, c.has_category.ensures tables i, c.category-code.ensures.0)
+    rw (c.requires.1, c.blank.ensures, c.has.ensures tables i, c.category-code.ensures.0)

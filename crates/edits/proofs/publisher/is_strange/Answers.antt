@@ -6,4 +6,4 @@ pub returns-then-blank : goal.returns-then-blank
 returns-then-blank c tables i = rw (sym c.blank.ensures ∙ c.if-blank.true)
 
 pub returns : goal.returns
-returns c tables i = rw (c.has_society.ensures tables i, sym c.blank.ensures ∙ c.if-blank.false)
+returns c tables i = rw (c.has.ensures tables i, sym c.blank.ensures ∙ c.if-blank.false)

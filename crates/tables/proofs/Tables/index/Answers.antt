@@ -1,11 +1,11 @@
--- `tables::index` meets its contract: what is written into a part leaves those before it.
+-- `tables::Tables::index` meets its contract: what is written into a part leaves those before it.
 use Prim.Native.Nat.{◌+◌}
 use native.Mathlib.Omega.{arith}
 use borrow.Author.Rules.{rules}
 use Rattle.tables.specs.Index.{part_size}
 use Rattle.tables.proofs.Slots.{free-start}
 use Rattle.tables.proofs.Parts.{part_stays}
-use Rattle.tables.proofs.index.Goals as goal
+use Rattle.tables.proofs.Tables.index.Goals as goal
 
 pub index_table-requires : goal.index_table-requires
 index_table-requires c =
