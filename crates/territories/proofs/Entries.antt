@@ -1,13 +1,14 @@
 -- The entries of a territory table by their bytes. Assumes nothing.
 use Prim.Native.Nat.{ℕ, zero, suc, ◌+◌, ◌*◌, ◌/◌, ◌<◌}
-use mathlib.Core.Path.{◌≡◌, refl, sym, ap, ◌∙◌}
-use mathlib.Core.Bool.{Bool, true, false, ◌&&◌}
+use mathlib.Core.Path.{◌≡◌, refl, ap, ◌∙◌}
+use mathlib.Core.Bool.{Bool, ◌&&◌}
 use mathlib.Core.List.{List, [], ◌∷◌, map}
 use native.Mathlib.Nat.{mul-suc}
 use native.Mathlib.Omega.{arith}
 use lib.Dec.{eqb}
 use lib.ListN.{length, take, drop, get_or}
-use lib.Seq.{drop-drop, take-take, get_or-take, get_or-drop, ext_get_or}
+use lib.Seq.{drop-drop, take-take, get_or-take, get_or-drop}
+use Rattle.std.specs.Cmp.Lexicographic.{pointwise}
 use Rattle.format.specs.Bytes.{Bytes, same_bytes}
 use Rattle.rules.specs.Tables.{first_entries, entries}
 use Rattle.rules.specs.Territories.{Territory, territory_of, territories_in, codes_of, no_group}
@@ -28,33 +29,13 @@ map_at f [] k d e h = absurd (omega arith)
 map_at f (x ∷ xs) zero d e h = refl
 map_at f (x ∷ xs) (suc k) d e h = map_at f xs k d e (omega arith)
 
--- ---- codes, of four bytes
+-- ---- slices are compared as the format compares bytes
 
-four : (x : Bytes) → length x ≡ 4 → x ≡ get_or x 0 0 ∷ get_or x 1 0 ∷ get_or x 2 0 ∷ get_or x 3 0 ∷ []
-four x h = ext_get_or 0 x _ h at
-  where
-    at : (i : ℕ) → i < length x → get_or x i 0 ≡ get_or (get_or x 0 0 ∷ get_or x 1 0 ∷ get_or x 2 0 ∷ get_or x 3 0 ∷ []) i 0
-    at zero l = refl
-    at (suc zero) l = refl
-    at (suc (suc zero)) l = refl
-    at (suc (suc (suc zero))) l = refl
-    at (suc (suc (suc (suc i)))) l = absurd (omega arith)
-
-regrouped : (a b c d : Bool) → (a && b && c && d) ≡ (a && (b && (c && (d && true))))
-regrouped false b c d = refl
-regrouped true false c d = refl
-regrouped true true false d = refl
-regrouped true true true false = refl
-regrouped true true true true = refl
-
-module _ (x y : Bytes) where
-  abbrev alike : ℕ → Bool
-  alike i = eqb (get_or x i 0) (get_or y i 0)
-
-  pub same-four : length x ≡ 4 → length y ≡ 4 → (alike 0 && alike 1 && alike 2 && alike 3) ≡ same_bytes x y
-  same-four h l =
-      regrouped (alike 0) (alike 1) (alike 2) (alike 3)
-      ∙ sym (ap (λ s. same_bytes s y) (four x h) ∙ ap (λ s. same_bytes (get_or x 0 0 ∷ get_or x 1 0 ∷ get_or x 2 0 ∷ get_or x 3 0 ∷ []) s) (four y l))
+pub sliced : (x y : Bytes) → pointwise eqb x y ≡ same_bytes x y
+sliced [] [] = refl
+sliced [] (b ∷ y) = refl
+sliced (a ∷ x) [] = refl
+sliced (a ∷ x) (b ∷ y) = ap (λ (t : Bool). eqb a b && t) (sliced x y)
 
 -- ---- territories
 

@@ -24,13 +24,6 @@ pub fn count(table: &[u8]) -> usize
     table.len() / SIZE
 }
 
-fn wide(b: u8) -> usize
-    ensures value { result ≡ b }
-    ensures upper_bound { result < 256 }
-{
-    b as usize
-}
-
 // The position of the k-th entry's group.
 pub fn group(table: &[u8], k: usize) -> usize
     requires { 6 * k + 6 ≤ length table.now }
@@ -38,7 +31,7 @@ pub fn group(table: &[u8], k: usize) -> usize
     ensures upper_bound { result ≤ 65535 }
 {
     let at = SIZE * k + 4;
-    wide(table[at]) + 256 * wide(table[at + 1])
+    usize::from(table[at]) + 256 * usize::from(table[at + 1])
 }
 
 // The k-th entry's code: lent, not copied.
@@ -47,16 +40,8 @@ fn code_at(table: &[u8], k: usize) -> &[u8]
     ensures result_value { result.now ≡ get_or (codes_of (territories_in table.now)) k [] }
     ensures result_len { length result.now ≡ 4 }
 {
-    let a = SIZE * k;
-    let e = a + 4;
-    &table[a..e]
-}
-
-fn same(a: &[u8], b: &[u8]) -> bool
-    requires { (length a.now ≡ 4) × (length b.now ≡ 4) }
-    ensures { result ≡ same_bytes a.now b.now }
-{
-    (a[0] == b[0]) & (a[1] == b[1]) & (a[2] == b[2]) & (a[3] == b[3])
+    let start = SIZE * k;
+    &table[start..start + 4]
 }
 
 // Whether the k-th entry has this code.
@@ -64,25 +49,23 @@ pub fn is_at(table: &[u8], k: usize, code: &[u8]) -> bool
     requires { (6 * k + 6 ≤ length table.now) × (length code.now ≡ 4) }
     ensures { result ≡ same_bytes (get_or (codes_of (territories_in table.now)) k []) code.now }
 {
-    same(code_at(table, k), code)
+    code_at(table, k) == code
 }
 
 // ---- the place of a code
 
 // The first entry from that one on that has this code; where none has, the end.
 fn place_from(table: &[u8], from: usize, code: &[u8]) -> usize
-    requires { length code.now ≡ 4 }
+    requires { (from ≤ length (territories_in table.now)) × (length code.now ≡ 4) }
     ensures { result ≡ from + place_of code.now (drop from (codes_of (territories_in table.now))) }
 {
     let end = count(table);
-    let mut k = from;
-    while k < end {
+    for k in from..end {
         if is_at(table, k, code) {
             return k;
         }
-        k += 1;
     }
-    k
+    end
 }
 
 // The first entry that has this code; where none has, how many entries there are.
@@ -106,17 +89,11 @@ fn slot(code: &[u8]) -> usize
     ensures value { result ≡ slot_of code.now }
     ensures upper_bound { result < hint_count }
 {
-    (wide(code[0] % 16) * 1000
-        + wide(code[1] % 16) * 100
-        + wide(code[2] % 16) * 10
-        + wide(code[3] % 16))
+    (usize::from(code[0] % 16) * 1000
+        + usize::from(code[1] % 16) * 100
+        + usize::from(code[2] % 16) * 10
+        + usize::from(code[3] % 16))
         % SLOTS
-}
-
-fn widened(hint: u16) -> usize
-    ensures { result ≡ hint }
-{
-    hint as usize
 }
 
 // What the slot of a code holds.
@@ -124,8 +101,7 @@ fn hint_of(hints: &Hints, code: &[u8]) -> usize
     requires { length code.now ≡ 4 }
     ensures { result ≡ get_or hints.now (slot_of code.now) 0 }
 {
-    let at = slot(code);
-    widened(hints[at])
+    usize::from(hints[slot(code)])
 }
 
 // Stores each entry's position in the slot of its code, where a later one may follow.
@@ -133,12 +109,8 @@ pub fn hint(table: &[u8], hints: &mut Hints)
     requires { length (territories_in table.now) ≤ most_territories }
     ensures { length hints.old ≡ hint_count → Hinted (codes_of (territories_in table.now)) hints.new }
 {
-    let end = count(table);
-    let mut k = 0;
-    while k < end {
-        let at = slot(code_at(table, k));
-        hints[at] = k as u16;
-        k += 1;
+    for k in 0..count(table) {
+        hints[slot(code_at(table, k))] = k as u16;
     }
 }
 
@@ -148,10 +120,8 @@ pub fn find(table: &[u8], hints: &Hints, code: &[u8]) -> usize
     ensures { result ≡ place_of code.now (codes_of (territories_in table.now)) }
 {
     let k = hint_of(hints, code);
-    if k < count(table) {
-        if is_at(table, k, code) {
-            return k;
-        }
+    if k < count(table) && is_at(table, k, code) {
+        return k;
     }
     position(table, code)
 }
@@ -165,10 +135,7 @@ fn again(table: &[u8], hints: &Hints, k: usize) -> bool
         (drop (k + 1) (codes_of (territories_in table.now))) }
 {
     let code = code_at(table, k);
-    if hint_of(hints, code) == k {
-        return false;
-    }
-    place_from(table, k + 1, code) < count(table)
+    hint_of(hints, code) != k && place_from(table, k + 1, code) < count(table)
 }
 
 fn any_twice(table: &[u8]) -> bool
@@ -177,13 +144,10 @@ fn any_twice(table: &[u8]) -> bool
 {
     let mut hints: Hints = [0; SLOTS];
     hint(table, &mut hints);
-    let end = count(table);
-    let mut k = 0;
-    while k < end {
+    for k in 0..count(table) {
         if again(table, &hints, k) {
             return true;
         }
-        k += 1;
     }
     false
 }
@@ -191,15 +155,12 @@ fn any_twice(table: &[u8]) -> bool
 fn groups_earlier(table: &[u8]) -> bool
     ensures { result ≡ groups_earlier 0 (territories_in table.now) }
 {
-    let end = count(table);
-    let mut k = 0;
-    while k < end {
+    for k in 0..count(table) {
         let position = group(table, k);
         let earlier = (position == NO_GROUP) | (position < k);
         if !earlier {
             return false;
         }
-        k += 1;
     }
     true
 }
@@ -209,9 +170,5 @@ pub fn right(table: &[u8]) -> bool
     ensures { result ≡ right_territories table.now }
 {
     let short = (table.len() % SIZE == 0) & (table.len() / SIZE <= MOST);
-    if short {
-        !any_twice(table) & groups_earlier(table)
-    } else {
-        false
-    }
+    short && (!any_twice(table) & groups_earlier(table))
 }

@@ -1,4 +1,3 @@
-use Prim.Native.Nat.{◌-◌}
 use mathlib.Core.Path.{◌≡◌}
 use lib.ListN.{drop}
 use Rattle.rules.specs.Territories.{territories_in, codes_of, any_twice}
@@ -6,6 +5,3 @@ use Rattle.territories.proofs.any_twice.Given as goal
 
 abbrev pub invariant-loop-k : goal.invariant-loop-k
 invariant-loop-k l = any_twice (drop l.k (codes_of (territories_in l.table))) ≡ any_twice (codes_of (territories_in l.table))
-
-abbrev pub decreases-loop-k : goal.decreases-loop-k
-decreases-loop-k l = l.end - l.k

@@ -1,4 +1,3 @@
-use Prim.Native.Nat.{◌-◌}
 use mathlib.Core.Path.{◌≡◌}
 use lib.ListN.{drop}
 use Rattle.rules.specs.Territories.{territories_in, groups_earlier}
@@ -6,6 +5,3 @@ use Rattle.territories.proofs.groups_earlier.Given as goal
 
 abbrev pub invariant-loop-k : goal.invariant-loop-k
 invariant-loop-k l = groups_earlier l.k (drop l.k (territories_in l.table)) ≡ groups_earlier 0 (territories_in l.table)
-
-abbrev pub decreases-loop-k : goal.decreases-loop-k
-decreases-loop-k l = l.end - l.k

@@ -24,8 +24,8 @@ loop-k-preserved c long =
     let g = c.args in
     let so_far = l.invariant long in (
       simp length-set so_far.0,
-      hint-on (codes_of (territories_in g.table.now)) l.hints l.k c.slot-at.result so_far.1
-          (c.slot-at.ensures.value ∙ ap slot_of c.code_at.ensures.result_value) (omega (arith, so_far.0, c.slot-at.ensures.upper_bound)),
+      hint-on (codes_of (territories_in g.table.now)) l.hints l.k c.slot.result so_far.1
+          (c.slot.ensures.value ∙ ap slot_of c.code_at.ensures.result_value) (omega (arith, so_far.0, c.slot.ensures.upper_bound)),
     )
 
 pub returns : goal.returns

@@ -1,4 +1,3 @@
-use Prim.Native.Nat.{◌-◌}
 use mathlib.Core.Path.{◌≡◌}
 use lib.ListN.{length}
 use Rattle.rules.specs.Territories.{territories_in, codes_of}
@@ -8,6 +7,3 @@ use Rattle.territories.proofs.hint.Given as goal
 
 abbrev pub invariant-loop-k : goal.invariant-loop-k
 invariant-loop-k l = length l.initial.hints ≡ hint_count → (length l.hints ≡ hint_count) × HintedTo l.k (codes_of (territories_in l.table)) l.hints
-
-abbrev pub decreases-loop-k : goal.decreases-loop-k
-decreases-loop-k l = l.end - l.k

@@ -1,5 +1,5 @@
 -- `territories::place_from` meets its contract: the entries from the k-th on decide.
-use mathlib.Core.Path.{refl, sym, ◌∙◌}
+use mathlib.Core.Path.{◌≡◌, refl, sym, ◌∙◌}
 use native.Mathlib.Omega.{arith}
 use borrow.Author.Rules.{rules}
 use Rattle.rules.specs.Territories.{territories_in, codes_of}
@@ -36,4 +36,5 @@ pub returns : goal.returns
 returns c =
     let l = c.loop-k in
     let g = c.args in
-    place_end g.code.now (codes_of (territories_in g.table.now)) l.k (omega (arith, length-codes (territories_in g.table.now))) ∙ l.invariant
+    let last : c.count-end.result ≡ l.k = omega arith in
+    last ∙ place_end g.code.now (codes_of (territories_in g.table.now)) l.k (omega (arith, length-codes (territories_in g.table.now))) ∙ l.invariant
