@@ -3,12 +3,14 @@
 use mathlib.Core.Path.{◌≡◌, refl, sym, ap, ◌∙◌}
 use mathlib.Core.Bool.{Bool, true, false, cond}
 use mathlib.Core.List.{List, [], ◌∷◌, ◌++◌}
-use Prim.Native.Nat.{ℕ, zero, suc, ◌+◌, ◌-◌, ◌*◌, ◌/◌, ◌%◌, ◌^◌, ◌<◌, ◌≤◌}
-use native.Mathlib.Nat.{pow-suc, mul_assoc, mul_comm, mul-one, not-suc-le-zero, le_of_suc-le-suc}
+use Prim.Native.Nat.{ℕ, zero, suc, max, ◌+◌, ◌-◌, ◌*◌, ◌/◌, ◌%◌, ◌^◌, ◌<◌, ◌≤◌}
+use native.Mathlib.Numerals.{add-one}
+use mir.Val.{bool_byte}
+use native.Mathlib.Nat.{pow-suc, pow-le-pow_right, mul-add, mul-le-mul_left, mul_assoc, mul_comm, mul-one, not-suc-le-zero, le_of_suc-le-suc}
 use native.Mathlib.Omega.{arith}
-use lib.Dec.{leb, eqb}
+use lib.Dec.{leb, eqb, lit<, leb-suc-zero}
 use lib.Count.{ones, count_trailing_zeros, ones_step, under}
-use lib.ListN.{length, replicate, drop, get_or, drop_of_length-le, length-append, length-replicate, length-drop}
+use lib.ListN.{length, replicate, drop, get_or, drop_of_length-le, length-append, length-replicate}
 use lib.Seq.{drop-cons}
 use borrow.Author.Tests.{leb-true, leb-false, le-leb, lt-leb}
 use Rattle.format.proofs.Tests.{by_cases}
@@ -97,30 +99,6 @@ unfolding set_of
 moved_up zero bs = mul-one (set_of bs)
 moved_up (suc k) bs = rw pow-suc (sym (mul_assoc (set_of bs) (2 ^ k) 2) ∙ omega (arith, moved_up k bs))
 
--- the set of those from i on
-abbrev pub Packs : List Bool → ℕ → ℕ → Type 0
-Packs bs set i = (i ≤ length bs) × (set ≡ set_of (drop i bs))
-
-module _ (bs : List Bool) where
-  pub packs-none : Packs bs 0 (length bs)
-  unfolding set_of
-  packs-none = (omega arith, rw (drop_of_length-le bs {i = length bs} (omega arith)))
-
-  pub packs-one : (set i : ℕ) → 0 < i → Packs bs set i → Packs bs (2 * set + cond (get_or bs (i - 1) false) 1 0) (i - 1)
-  unfolding set_of
-  packs-one set zero h inv = absurd (omega arith)
-  packs-one set (suc w) h inv =
-      let e : suc w - 1 ≡ w = omega arith in
-      (omega arith, rw (e, drop-cons bs w false inv.0, inv.1) (omega arith))
-
-  pub packs-fit : (set i : ℕ) → length bs ≤ 64 → 0 < i → Packs bs set i → set < 2 ^ 63
-  packs-fit set i fits h inv = rw inv.1 (set_below 63 (drop i bs) (omega (arith, length-drop i bs)))
-
-  pub packed : (set first : ℕ) → first + length bs ≤ 64 → Packs bs set 0 → set * 2 ^ first % 2 ^ 64 ≡ set_of (replicate first false ++ bs)
-  packed set first fits inv =
-      let below = set_below 64 (replicate first false ++ bs) (omega (arith, length-append (replicate first false) bs, length-replicate first false)) in
-      rw (inv.1, moved_up first bs) (omega (arith, below))
-
 -- ---- the largest verdict of a row of findings, from its end
 
 -- what the findings from n on bring
@@ -139,32 +117,12 @@ pub verdict-at : (table : List ℕ) → table ≡ verdicts_from 0 many → (n : 
 verdict-at table e n h =
     ap (λ (x : List ℕ). get_or x n 0) e ∙ verdict-from 0 many n h ∙ ap (λ (x : ℕ). verdict_of (level x)) (let z : 0 + n ≡ n = omega arith in z)
 
--- the largest of those from i on
-abbrev pub Brings : ℕ → List Bool → ℕ → ℕ → Type 0
-Brings first bs most i = (i ≤ length bs) × (most ≡ worst_from (first + i) (drop i bs))
-
 pub worst-late : (n k : ℕ) (bs : List Bool) → worst_from n (replicate k false ++ bs) ≡ worst_from (n + k) bs
 worst-late n zero bs = ap (λ (x : ℕ). worst_from x bs) (let e : n ≡ n + 0 = omega arith in e)
 worst-late n (suc k) bs =
     larger-zero (worst_from (suc n) (replicate k false ++ bs))
     ∙ worst-late (suc n) k bs
     ∙ ap (λ (x : ℕ). worst_from x bs) (let e : suc n + k ≡ n + suc k = omega arith in e)
-
-module _ (first : ℕ) (bs : List Bool) where
-  pub brings-none : Brings first bs 0 (length bs)
-  brings-none = (omega arith, rw (drop_of_length-le bs {i = length bs} (omega arith)))
-
-  pub brings-one : (most i v : ℕ) → 0 < i → v ≡ verdict_of (level (first + (i - 1))) → Brings first bs most i
-      → Brings first bs (larger (cond (get_or bs (i - 1) false) v 0) most) (i - 1)
-  brings-one most zero v h e inv = absurd (omega arith)
-  brings-one most (suc w) v h e inv =
-      let p : suc w - 1 ≡ w = omega arith in
-      let q : suc (first + w) ≡ first + suc w = omega arith in
-      (omega arith, rw (e, p, drop-cons bs w false inv.0, inv.1, q))
-
-  pub brought : (most : ℕ) → Brings first bs most 0 → most ≡ worst (replicate first false ++ bs)
-  unfolding worst
-  brought most inv = inv.1 ∙ ap (λ (x : ℕ). worst_from x bs) (let e : first + 0 ≡ 0 + first = omega arith in e) ∙ sym (worst-late 0 first bs)
 
 -- ---- one row of findings after another
 
@@ -175,6 +133,47 @@ set_after (b ∷ bs) cs =
     let e : 2 ^ length bs * 2 * set_of cs ≡ 2 * (2 ^ length bs * set_of cs) =
     ap (λ (x : ℕ). x * set_of cs) (mul_comm (2 ^ length bs) 2) ∙ mul_assoc 2 (2 ^ length bs) (set_of cs) in
     rw pow-suc (omega (arith, e, set_after bs cs))
+
+pub one-or-none : (b : Bool) → bool_byte b ≡ cond b 1 0
+one-or-none true = refl
+one-or-none false = refl
+
+pub one-most : (b : Bool) → bool_byte b ≤ 1
+one-most true = omega arith
+one-most false = omega arith
+
+pub none-left : (bs : List Bool) → length bs ≡ 0 → bs ≡ []
+none-left [] h = refl
+none-left (b ∷ bs) h = absurd (omega arith)
+
+-- the set of those taken, from the last on, and the others make the set of all
+abbrev pub Packs : List Bool → ℕ → List Bool → Type 0
+Packs bs set left = set_of left + 2 ^ length left * set ≡ set_of bs
+
+module _ (bs : List Bool) (set : ℕ) where
+  pub packs-none : Packs bs 0 bs
+  packs-none = omega arith
+
+  pub packs-one : (left : List Bool) (b : Bool) → Packs bs set (left ++ b ∷ []) → Packs bs (2 * set + cond b 1 0) left
+  unfolding set_of
+  packs-one left b inv =
+      let p = 2 ^ length left in
+      let long : length (left ++ b ∷ []) ≡ suc (length left) = simp length-append (omega arith) in
+      let twice : p * 2 * set ≡ p * (2 * set) = mul_assoc p 2 set in
+      let sum : p * (2 * set + cond b 1 0) ≡ p * (2 * set) + p * cond b 1 0 = mul-add p (2 * set) (cond b 1 0) in
+      omega (arith, sum, twice, rw (long, pow-suc, set_after left (b ∷ [])) at inv)
+
+  pub packs-fit : (left : List Bool) → length bs ≤ 62 → Packs bs set left → set < 2 ^ 62
+  packs-fit left fits inv =
+      let one : 1 ≤ 2 ^ length left = pow-le-pow_right {n = 2} (lit< tt) {i = 0} {j = length left} (omega arith) in
+      omega (arith, set_below 62 bs fits, inv, mul-le-mul_left {m = 1} {n = 2 ^ length left} set one, mul_comm set (2 ^ length left))
+
+pub packed : (bs : List Bool) (set first : ℕ) → first + length bs ≤ 64 → Packs bs set [] → set * 2 ^ first % 2 ^ 64 ≡ set_of (replicate first false ++ bs)
+unfolding set_of
+packed bs set first fits inv =
+    let below = set_below 64 (replicate first false ++ bs) (omega (arith, length-append (replicate first false) bs, length-replicate first false)) in
+    let all : set ≡ set_of bs = omega (arith, inv) in
+    rw (all, moved_up first bs) (omega (arith, below))
 
 larger-assoc : (a b c : ℕ) → larger (larger a b) c ≡ larger a (larger b c)
 larger-assoc a b c =
@@ -194,3 +193,33 @@ worst-after n (b ∷ bs) cs =
     let here = cond b (verdict_of (level n)) 0 in
     ap (larger here) (worst-after (suc n) bs cs ∙ ap (λ (x : ℕ). larger (worst_from (suc n) bs) (worst_from x cs)) e)
     ∙ sym (larger-assoc here (worst_from (suc n) bs) (worst_from (n + suc (length bs)) cs))
+
+-- ---- the largest verdict of a row, from its first finding on
+
+larger-zero-right : (a : ℕ) → larger a 0 ≡ a
+larger-zero-right zero = refl
+larger-zero-right (suc a) = rw (leb-suc-zero a)
+
+-- with the largest of the others it is the largest of all
+abbrev pub Brings : ℕ → List Bool → ℕ → ℕ → Type 0
+Brings first bs most i = (i ≤ length bs) × (larger most (worst_from (first + i) (drop i bs)) ≡ worst_from first bs)
+
+module _ (first : ℕ) (bs : List Bool) (most i : ℕ) where
+  pub brings-none : Brings first bs 0 0
+  brings-none =
+      (omega arith, larger-zero (worst_from (first + 0) bs) ∙ ap (λ (x : ℕ). worst_from x bs) (let e : first + 0 ≡ first = omega arith in e))
+
+  pub brings-one : (v : ℕ) → i < length bs → v ≡ verdict_of (level (first + i)) → Brings first bs most i
+      → Brings first bs (larger most (cond (get_or bs i false) v 0)) (i + 1)
+  brings-one v h e inv =
+      let q : suc (first + i) ≡ first + suc i = omega arith in
+      (omega arith, rw (add-one, larger-assoc, e, ← q) (rw (drop-cons bs i false h) at inv.1))
+
+  pub brought : length bs ≤ i → Brings first bs most i → most ≡ worst (replicate first false ++ bs)
+  unfolding worst
+  brought h inv =
+      sym (larger-zero-right most) ∙ (rw (drop_of_length-le bs h) at inv.1) ∙ ap (λ (x : ℕ). worst_from x bs) (let e : first ≡ 0 + first = omega arith in e)
+      ∙ sym (worst-late 0 first bs)
+
+pub max-larger : (a b : ℕ) → max a b ≡ larger a b
+max-larger a b = by_cases (leb a b) (λ p. rw p (omega (arith, leb-true a b p))) (λ p. rw p (omega (arith, leb-false a b p)))

@@ -12,10 +12,8 @@ pub fn pack(first: usize, holds: &[bool]) -> u64
     ensures { result ≡ set_of (replicate first false ++ holds.now) }
 {
     let mut set = 0;
-    let mut i = holds.len();
-    while 0 < i {
-        i -= 1;
-        set = 2 * set + choice::bit(holds[i]);
+    for held in holds.iter().rev() {
+        set = 2 * set + u64::from(*held);
     }
     set << first
 }
@@ -24,7 +22,7 @@ pub fn pack(first: usize, holds: &[bool]) -> u64
 pub fn larger(a: u8, b: u8) -> u8
     ensures { result ≡ larger a b }
 {
-    if a <= b { b } else { a }
+    a.max(b)
 }
 
 // The verdicts: field defaulted, record rejected, transaction rejected, group rejected.
@@ -60,11 +58,9 @@ pub fn worst(first: usize, holds: &[bool]) -> u8
     ensures { result ≡ worst (replicate first false ++ holds.now) }
 {
     let verdicts = VERDICTS;
-    let mut most = 0;
-    let mut i = holds.len();
-    while 0 < i {
-        i -= 1;
-        most = larger(choice::byte(holds[i], verdicts[first + i], 0), most);
+    let mut most: u8 = 0;
+    for (i, held) in holds.iter().enumerate() {
+        most = most.max(choice::pick(*held, verdicts[first + i], 0));
     }
     most
 }

@@ -1,8 +1,5 @@
 use Rattle.findings.proofs.Laws.{Packs}
 use Rattle.findings.proofs.pack.Given as goal
 
-abbrev pub invariant-loop-i : goal.invariant-loop-i
-invariant-loop-i l = Packs l.holds l.set l.i
-
-abbrev pub decreases-loop-i : goal.decreases-loop-i
-decreases-loop-i l = l.i
+abbrev pub invariant-loop-held : goal.invariant-loop-held
+invariant-loop-held l = Packs l.holds l.set l.held-iterator.iter.rest.now
