@@ -1,14 +1,14 @@
 -- What the entries of a transaction's claims come to in a territory is the total that the rules give. Assumes nothing.
-use Prim.Native.Nat.{ℕ, zero, suc, ◌+◌, ◌≤◌, ◌<◌}
+use Prim.Native.Nat.{ℕ, suc, ◌+◌, ◌<◌}
 use native.Mathlib.Omega.{arith}
 use native.Mathlib.Nat.{zero-add}
 use mathlib.Core.Path.{◌≡◌, refl, sym, ap, ◌∙◌}
 use mathlib.Core.Bool.{Bool, true, false, cond, not, ◌&&◌, ◌||◌, true≢false}
-use mathlib.Core.Option.{Option, none, some}
+use mathlib.Core.Option.{some}
 use mathlib.Core.List.{List, [], ◌∷◌, ◌++◌, append_assoc, append-nil}
 use lib.Dec.{eqb}
-use lib.ListN.{length, get_or}
-use borrow.Author.Tests.{eqb-true, eq-eqb, ne_eqb}
+use lib.ListN.{get_or}
+use borrow.Author.Tests.{eq-eqb, ne_eqb}
 use Rattle.format.specs.Ascii.{ascii}
 use Rattle.format.specs.Bytes.{Bytes, same_bytes, among}
 use Rattle.format.specs.Fields.{number_of, are_digits}
@@ -21,8 +21,7 @@ use Rattle.rules.specs.Collection.{is_party, is_claim, collected, mark, claimed,
 use Rattle.rules.proofs.Lists.{only_kept, only-left}
 use Rattle.territories.specs.Positions.{place_of}
 use Rattle.claims.specs.declared.Claim.{Claim}
-use Rattle.claims.specs.Zeros.{no_claim}
-use Rattle.claims.specs.Entries.{entry_of, entries_from, gives, begins, party_with, speaks, gives_with, comes_to}
+use Rattle.claims.specs.Entries.{entry_of, entries_from, gives, speaks, comes_to}
 
 -- ---- the last claim
 

@@ -1,22 +1,26 @@
 -- The work table: one word written, one right settled, one territory, and all of them. Assumes nothing.
-use Prim.Native.Nat.{ℕ, zero, suc, ◌+◌, ◌*◌, ◌^◌, ◌<◌, ◌≤◌}
+use Prim.Native.Nat.{ℕ, ◌+◌, ◌*◌, ◌^◌, ◌<◌, ◌≤◌}
 use native.Mathlib.Omega.{arith}
-use native.Mathlib.Nat.{zero-add}
-use mathlib.Core.Path.{◌≡◌, refl, sym, ap, ◌∙◌}
-use mathlib.Core.Bool.{Bool, true, false, cond, not, ◌&&◌, ◌||◌, true≢false}
-use mathlib.Core.List.{List, [], ◌∷◌, ◌++◌, append_assoc}
-use lib.Dec.{eqb, ltb}
-use lib.ListN.{length, get_or, set, length-set, replicate, length-replicate}
+use mathlib.Core.Path.{◌≡◌, ap, ◌∙◌}
+use mathlib.Core.Bool.{Bool, true, false, cond}
+use mathlib.Core.List.{List}
+use lib.ListN.{length, get_or, set, length-set}
 use lib.Seq.{get_or-set_same, get_or-set_other}
-use borrow.Author.Tests.{eqb-true, eqb-false, eq-eqb, ne_eqb}
-use Rattle.format.specs.Bytes.{Bytes, same_bytes, among}
-use Rattle.format.proofs.Tests.{by_cases}
+use Rattle.std.specs.Int.{from_bool}
 use Rattle.rules.specs.Totals.{Right, PR, MR, SR}
-use Rattle.rules.specs.Territories.{Territory, territories_in, codes_of, names}
 use Rattle.totals.specs.declared.Rights.{Rights}
-use Rattle.claims.specs.declared.Claim.{Claim}
-use Rattle.claims.specs.Entries.{gives, is_ignored, begins, party_with, speaks, gives_with, comes_to}
-use Rattle.claims.specs.Work.{word_of, current, closed, of_right, Settled, Bounded, Placed, Stands, Counted}
+use Rattle.claims.specs.Entries.{begins, speaks}
+use Rattle.claims.specs.Work.{word_of, current, closed, of_right, Settled, Bounded, Placed}
+
+-- ---- numbers that a condition picks
+
+pub cond-most : (b : Bool) (m n k : ℕ) → m ≤ k → n ≤ k → cond b m n ≤ k
+cond-most true m n k g h = g
+cond-most false m n k g h = h
+
+pub one-or-none : (b : Bool) (n : ℕ) → n ≡ from_bool b → n ≡ cond b 1 0
+one-or-none true n e = e
+one-or-none false n e = e
 
 -- ---- one right
 

@@ -2,8 +2,6 @@
 use Rattle.std.specs.Prelude.{ℕ, zero, suc, ◌+◌, Bool, cond, not, ◌&&◌, ◌||◌, List, [], ◌∷◌, eqb, length, get_or}
 use Rattle.format.specs.Bytes.{Bytes, among}
 use Rattle.format.specs.Fields.{number_of}
-use Rattle.format.specs.Lines.{lines}
-use Rattle.format.specs.Numbering.{records_in}
 use Rattle.rules.specs.Values.{full_share}
 use Rattle.rules.specs.Totals.{Right, PR, MR, SR, exceeds}
 use Rattle.rules.specs.Territories.{Territory, territories_in, codes_of, names, has_members}

@@ -16,7 +16,7 @@ use values::Share;
 
 // One claim, as the caller's list holds it. A C program lends the list, so that any bytes may stand in it before.
 #[repr(C)]
-#[derive(Clone, Copy)]
+#[derive(Clone, Copy, Default)]
 pub struct Claim {
     // The number of its party in the transaction, from 1; 0 for a claim before any party, or one that is ignored.
     pub party: u32,
@@ -40,9 +40,9 @@ impl Claim {
     {
         let out = self.mark == EXCLUDES;
         Rights {
-            pr: choice::number(out, 0, self.pr as u64),
-            mr: choice::number(out, 0, self.mr as u64),
-            sr: choice::number(out, 0, self.sr as u64),
+            pr: choice::pick(out, 0, u64::from(self.pr)),
+            mr: choice::pick(out, 0, u64::from(self.mr)),
+            sr: choice::pick(out, 0, u64::from(self.sr)),
         }
     }
 }
@@ -58,8 +58,8 @@ fn settle(work: &mut [u64], at: usize, speaks: bool, begins: bool, share: u64)
     ensures { Settled at speaks begins share work.old work.new }
 {
     let current = work[at];
-    work[at + 3] = work[at + 3] + choice::number(begins, current, 0);
-    work[at] = choice::number(speaks, share, choice::number(begins, 0, current));
+    work[at + 3] += choice::pick(begins, current, 0);
+    work[at] = choice::pick(speaks, share, choice::pick(begins, 0, current));
 }
 
 // The territory at position j, with one entry more.
@@ -68,7 +68,7 @@ fn place(work: &mut [u64], j: usize, speaks: bool, begins: bool, given: Rights)
     ensures { Placed j speaks begins given work.old work.new }
 {
     let at = 8 * j;
-    work[at] = choice::bit(speaks);
+    work[at] = u64::from(speaks);
     settle(work, at + 1, speaks, begins, given.pr);
     settle(work, at + 2, speaks, begins, given.mr);
     settle(work, at + 3, speaks, begins, given.sr);
@@ -79,10 +79,7 @@ fn group_spoken(work: &[u64], group: usize, j: usize) -> bool
     requires { 8 * j ≤ length work.now }
     ensures { result ≡ (ltb group j && eqb (get_or work.now (8 * group) 0) 1) }
 {
-    if group < j {
-        return work[8 * group] == 1;
-    }
-    false
+    group < j && work[8 * group] == 1
 }
 
 // With one entry more, after an entry of that party; the party at hand is answered. Groups stand before what they hold, so one pass does.
@@ -98,12 +95,10 @@ pub fn count(last: u32, claim: Claim, table: &[u8], work: &mut [u64]) -> u32
     let given = claim.given();
     let n = territories::count(table);
     let code = claim.code as usize;
-    let mut j = 0;
-    while j < n {
+    for j in 0..n {
         let group = territories::group(table, j);
         let speaks = (j == code) | group_spoken(work, group, j);
         place(work, j, speaks, begins, given);
-        j += 1;
     }
     claim.party
 }
@@ -126,11 +121,9 @@ fn hold_all(table: &[u8], held: &mut [bool; 512])
     ensures { Held (territories_in table.now) held.new }
 {
     let n = territories::count(table);
-    let mut j = 0;
-    while j < n {
+    for j in 0..n {
         let group = territories::group(table, j);
         hold(held, group);
-        j += 1;
     }
 }
 
@@ -162,12 +155,10 @@ pub fn first_over(table: &[u8], t: u64, work: &[u64]) -> usize
     let mut held: [bool; 512] = [false; 512];
     hold_all(table, &mut held);
     let n = territories::count(table);
-    let mut j = 0;
-    while j < n {
+    for j in 0..n {
         if !held[j] & is_over(work, j, t) {
             return j;
         }
-        j += 1;
     }
     n
 }

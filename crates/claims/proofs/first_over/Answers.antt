@@ -1,7 +1,7 @@
 -- `claims::first_over` meets its contract: none of the territories before the j-th is over.
 use Prim.Native.Nat.{ℕ, ◌-◌, ◌≤◌}
 use mathlib.Core.Path.{◌≡◌, refl, sym, ◌∙◌}
-use mathlib.Core.Bool.{Bool, false}
+use mathlib.Core.Bool.{Bool}
 use native.Mathlib.Omega.{arith}
 use Rattle.rules.specs.Territories.{territories_in}
 use Rattle.rules.proofs.Names.{right-table}

@@ -11,6 +11,3 @@ abbrev pub invariant-loop-j : goal.invariant-loop-j
 invariant-loop-j l =
     (l.j ≤ l.n) × ((es : List Claim) (last : ℕ) → Counted l.table es last l.work
     → first_from (is_over_at (territories_in l.table) l.t es) l.j (l.n - l.j) ≡ over_in l.table l.t es)
-
-abbrev pub decreases-loop-j : goal.decreases-loop-j
-decreases-loop-j l = l.n - l.j

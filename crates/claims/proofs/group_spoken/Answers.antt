@@ -5,5 +5,5 @@ use Rattle.claims.proofs.group_spoken.Goals as goal
 pub returns-then-group-j : goal.returns-then-group-j
 returns-then-group-j c = rw (lt-ltb _ _ c.if-group-j.true)
 
-pub returns : goal.returns
-returns c = rw (le-ltb _ _ c.if-group-j.false)
+pub returns-else-group-j : goal.returns-else-group-j
+returns-else-group-j c = rw (le-ltb _ _ c.if-group-j.false)

@@ -1,5 +1,4 @@
 -- `claims::hold_all` meets its contract: the groups of the territories before the j-th are marked.
-use Prim.Native.Nat.{◌-◌}
 use mathlib.Core.Path.{◌≡◌, ap, ◌∙◌}
 use mathlib.Core.Bool.{Bool, false}
 use native.Mathlib.Omega.{arith}
