@@ -4,7 +4,7 @@ use mathlib.Core.Bool.{Bool, true, false, cond, ◌&&◌, ◌||◌, and-true, or
 use mathlib.Core.List.{[], ◌∷◌}
 use Prim.Native.Nat.{ℕ}
 use lib.Dec.{eqb}
-use lib.ListN.{length, get_or, take}
+use lib.ListN.{take}
 use Rattle.format.specs.Ascii.{ascii}
 use Rattle.format.specs.Bytes.{Bytes, same_bytes}
 use Rattle.format.specs.Fields.{field_of, is_blank}
@@ -12,7 +12,6 @@ use Rattle.rules.specs.Values.{are_zeros, zeros}
 use Rattle.rules.specs.Records.{is_type}
 use Rattle.rules.specs.Other.{is43, release_date, release_duration, is44, is45, is46, date_in_force, duration_in_force}
 use Rattle.format.proofs.Tests.{both}
-use Rattle.values.proofs.Laws.{spelled}
 use Rattle.edits.proofs.Types.{clash, not-other, not_third}
 
 -- ---- bytes compared
@@ -23,12 +22,6 @@ one-blank b = and-true (eqb b 32)
 
 pub one_same : (a b : ℕ) → same_bytes (a ∷ []) (b ∷ []) ≡ eqb a b
 one_same a b = and-true (eqb a b)
-
-pub code_is : (a b : ℕ) (f : Bytes) → length f ≡ 2 → (eqb a (get_or f 0 0) && eqb b (get_or f 1 0)) ≡ same_bytes (a ∷ b ∷ []) f
-code_is a b f h = sym (rw (and-true (eqb b (get_or f 1 0)))) ∙ ap (same_bytes (a ∷ b ∷ [])) (spelled 2 f h)
-
-pub serious-is : (f : Bytes) → length f ≡ 3 → (eqb 83 (get_or f 0 0) && (eqb 69 (get_or f 1 0) && eqb 82 (get_or f 2 0))) ≡ same_bytes (ascii "SER") f
-serious-is f h = sym (rw (and-true (eqb 82 (get_or f 2 0)))) ∙ ap (same_bytes (ascii "SER")) (spelled 3 f h)
 
 -- ---- finding 43, by the type
 

@@ -1,167 +1,135 @@
 // NWR and REV.
-ghost use Rattle.std.specs.Prelude.{◌≡◌, List, length};
+ghost use Rattle.std.specs.Prelude.{◌≡◌, List};
 ghost use Rattle.format.specs.Bytes.{Bytes};
 ghost use Rattle.rules.specs.Tables.{Tables};
-ghost use Rattle.rules.specs.Header.{title, language, work_number, iswc, copyright_date, category, duration};
 ghost use Rattle.rules.specs.Header.{is_serious, is16, is17, is18, is19, is20, is21, is22, is23};
 ghost use Rattle.tables.specs.Index.{Indexed};
 ghost use Rattle.edits.specs.Kinds.{HeaderRecord};
 ghost use Rattle.edits.specs.Judged.{Judged};
 
-use super::Found;
-use tables::Table;
+use super::{Field, Found, gather, is_code};
+use tables::{Slots, Table};
+use std::marker::Model;
 
 // ---- fields
 
-fn title(record: &[u8]) -> &[u8]
-    requires { HeaderRecord «record».now }
-    ensures { (result.now ≡ title «record».now) × (length result.now ≡ 60) }
-{
-    text::field(record, 20, 60)
+const TITLE: Field = Field(20, 60);
+
+const LANGUAGE: Field = Field(80, 2);
+
+const WORK_NUMBER: Field = Field(82, 14);
+
+const ISWC: Field = Field(96, 11);
+
+const COPYRIGHT_DATE: Field = Field(107, 8);
+
+const CATEGORY: Field = Field(127, 3);
+
+const DURATION: Field = Field(130, 6);
+
+// The bytes of a header, whose type and length have been seen to.
+#[derive(Drop)]
+pub struct Header<'a> {
+    pub bytes: &'a [u8],
 }
 
-fn language(record: &[u8]) -> &[u8]
-    requires { HeaderRecord «record».now }
-    ensures { (result.now ≡ language «record».now) × (length result.now ≡ 2) }
-{
-    text::field(record, 80, 2)
-}
+impl<'a> Model for Header<'a> {
+    ghost Value = { Bytes };
 
-fn work_number(record: &[u8]) -> &[u8]
-    requires { HeaderRecord «record».now }
-    ensures { (result.now ≡ work_number «record».now) × (length result.now ≡ 14) }
-{
-    text::field(record, 82, 14)
-}
+    ghost view = { λ h. h.bytes.now };
 
-fn iswc(record: &[u8]) -> &[u8]
-    requires { HeaderRecord «record».now }
-    ensures { (result.now ≡ iswc «record».now) × (length result.now ≡ 11) }
-{
-    text::field(record, 96, 11)
-}
-
-fn copyright_date(record: &[u8]) -> &[u8]
-    requires { HeaderRecord «record».now }
-    ensures { (result.now ≡ copyright_date «record».now) × (length result.now ≡ 8) }
-{
-    text::field(record, 107, 8)
-}
-
-fn category(record: &[u8]) -> &[u8]
-    requires { HeaderRecord «record».now }
-    ensures { (result.now ≡ category «record».now) × (length result.now ≡ 3) }
-{
-    text::field(record, 127, 3)
-}
-
-fn duration(record: &[u8]) -> &[u8]
-    requires { HeaderRecord «record».now }
-    ensures { (result.now ≡ duration «record».now) × (length result.now ≡ 6) }
-{
-    text::field(record, 130, 6)
+    ghost invariant = { λ h. HeaderRecord h.bytes.now };
 }
 
 // ---- findings
 
-// Title blank.
-fn found_16(record: &[u8]) -> bool
-    requires { HeaderRecord «record».now }
-    ensures { result ≡ is16 «record».now }
-{
-    text::blank(title(record))
-}
-
-// Language entered and not in the table.
-fn found_17(record: &[u8], slots: &tables::Slots) -> bool
-    requires { HeaderRecord «record».now }
-    ensures { (tables : Tables) → Indexed tables slots.now → result ≡ is17 tables «record».now }
-{
-    let code = language(record);
-    if text::blank(code) {
-        return false;
+impl Header<'_> {
+    // Title blank.
+    fn found_16(&self) -> bool
+        ensures { result ≡ is16 self.now }
+    {
+        text::blank(TITLE.of(self.bytes))
     }
-    !tables::has(slots, Table::Languages, code)
-}
 
-// Work number blank.
-fn found_18(record: &[u8]) -> bool
-    requires { HeaderRecord «record».now }
-    ensures { result ≡ is18 «record».now }
-{
-    text::blank(work_number(record))
-}
+    // Language entered and not in the table.
+    fn found_17(&self, slots: &Slots) -> bool
+        ensures { (tables : Tables) → Indexed tables slots.now → result ≡ is17 tables self.now }
+    {
+        let code = LANGUAGE.of(self.bytes);
+        !text::blank(code) && !tables::has(slots, Table::Languages, code)
+    }
 
-// ISWC entered and invalid.
-fn found_19(record: &[u8]) -> bool
-    requires { HeaderRecord «record».now }
-    ensures { result ≡ is19 «record».now }
-{
-    let code = iswc(record);
-    !text::blank(code) & !values::iswc(code)
-}
+    // Work number blank.
+    fn found_18(&self) -> bool
+        ensures { result ≡ is18 self.now }
+    {
+        text::blank(WORK_NUMBER.of(self.bytes))
+    }
 
-// Copyright date not zeros and invalid.
-fn found_20(record: &[u8]) -> bool
-    requires { HeaderRecord «record».now }
-    ensures { result ≡ is20 «record».now }
-{
-    let date = copyright_date(record);
-    !values::zeros(date) & !values::date(date)
-}
+    // ISWC entered and invalid.
+    fn found_19(&self) -> bool
+        ensures { result ≡ is19 self.now }
+    {
+        let code = ISWC.of(self.bytes);
+        !text::blank(code) & !values::iswc(code)
+    }
 
-// Category not in the table; a blank one never is.
-fn found_21(record: &[u8], slots: &tables::Slots) -> bool
-    requires { HeaderRecord «record».now }
-    ensures { (tables : Tables) → Indexed tables slots.now → result ≡ is21 tables «record».now }
-{
-    let code = category(record);
-    text::blank(code) | !tables::has(slots, Table::Categories, code)
-}
+    // Copyright date not zeros and invalid.
+    fn found_20(&self) -> bool
+        ensures { result ≡ is20 self.now }
+    {
+        let date = COPYRIGHT_DATE.of(self.bytes);
+        !values::zeros(date) & !values::date(date)
+    }
 
-// Whether the category is SER.
-pub fn is_serious(record: &[u8]) -> bool
-    requires { HeaderRecord «record».now }
-    ensures { result ≡ is_serious «record».now }
-{
-    let code = category(record);
-    (b'S' == code[0]) & ((b'E' == code[1]) & (b'R' == code[2]))
-}
+    // Category not in the table; a blank one never is.
+    fn found_21(&self, slots: &Slots) -> bool
+        ensures { (tables : Tables) → Indexed tables slots.now → result ≡ is21 tables self.now }
+    {
+        let code = CATEGORY.of(self.bytes);
+        text::blank(code) | !tables::has(slots, Table::Categories, code)
+    }
 
-// Category SER, and duration zero or invalid.
-fn found_22(record: &[u8]) -> bool
-    requires { HeaderRecord «record».now }
-    ensures { result ≡ is22 «record».now }
-{
-    let duration = duration(record);
-    is_serious(record) & (values::zeros(duration) | !values::duration(duration))
-}
+    // Whether the category is SER.
+    pub fn is_serious(&self) -> bool
+        ensures { result ≡ is_serious self.now }
+    {
+        is_code(CATEGORY.of(self.bytes), b"SER")
+    }
 
-// Another category, and duration invalid.
-fn found_23(record: &[u8]) -> bool
-    requires { HeaderRecord «record».now }
-    ensures { result ≡ is23 «record».now }
-{
-    !is_serious(record) & !values::duration(duration(record))
+    // Category SER, and duration zero or invalid.
+    fn found_22(&self) -> bool
+        ensures { result ≡ is22 self.now }
+    {
+        let duration = DURATION.of(self.bytes);
+        self.is_serious() & (values::zeros(duration) | !values::duration(duration))
+    }
+
+    // Another category, and duration invalid.
+    fn found_23(&self) -> bool
+        ensures { result ≡ is23 self.now }
+    {
+        !self.is_serious() & !values::duration(DURATION.of(self.bytes))
+    }
 }
 
 // The tables are asked by the index made of them.
-pub fn judge(record: &[u8], slots: &tables::Slots) -> Found
-    requires { HeaderRecord «record».now }
-    ensures { (tables : Tables) (before : List Bytes) → Indexed tables slots.now
-        → Judged tables before «record».now result }
+pub fn judge(bytes: &[u8], slots: &Slots) -> Found
+    requires { HeaderRecord bytes.now }
+    ensures { (tables : Tables) (before : List Bytes) → Indexed tables slots.now → Judged tables before bytes.now result }
 {
-    super::gather(
+    let header = Header { bytes };
+    gather(
         16,
         &[
-            found_16(record),
-            found_17(record, slots),
-            found_18(record),
-            found_19(record),
-            found_20(record),
-            found_21(record, slots),
-            found_22(record),
-            found_23(record),
+            header.found_16(),
+            header.found_17(slots),
+            header.found_18(),
+            header.found_19(),
+            header.found_20(),
+            header.found_21(slots),
+            header.found_22(),
+            header.found_23(),
         ],
     )
 }

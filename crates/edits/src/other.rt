@@ -2,29 +2,34 @@
 ghost use Rattle.std.specs.Prelude.{◌≡◌, true, List, length};
 ghost use Rattle.format.specs.Bytes.{Bytes};
 ghost use Rattle.rules.specs.Tables.{Tables};
-ghost use Rattle.rules.specs.Other.{release_date, release_duration, is24, is44, is45, is46};
+ghost use Rattle.rules.specs.Other.{is24, is44, is45, is46};
 ghost use Rattle.edits.specs.Kinds.{VersionRecord, PerformerRecord, RecordingRecord, Stands};
 ghost use Rattle.edits.specs.Judged.{Judged};
 
-use super::Found;
+use super::{Field, Found, gather};
 use kinds::{EWT, MISPLACED, PER, REC, Row, VER};
+use std::marker::Model;
 
 // ---- finding 24 holds of these types, whatever they hold
 
 fn misplaced() -> Found
     ensures { (tables : Tables) (before : List Bytes) (detail : Bytes) → is24 detail ≡ true → Judged tables before detail result }
 {
-    super::gather(24, &[true])
+    gather(24, &[true])
 }
 
 // ---- finding 43 alone
+
+const TITLE: Field = Field(20, 60);
+
+const LAST_NAME: Field = Field(20, 45);
 
 // EWT and VER: title blank.
 fn version(record: &[u8]) -> Found
     requires { VersionRecord «record».now }
     ensures { (tables : Tables) (before : List Bytes) → Judged tables before «record».now result }
 {
-    super::gather(43, &[text::blank(text::field(record, 20, 60))])
+    gather(43, &[text::blank(TITLE.of(record))])
 }
 
 // PER: last name blank.
@@ -32,63 +37,66 @@ fn performer(record: &[u8]) -> Found
     requires { PerformerRecord «record».now }
     ensures { (tables : Tables) (before : List Bytes) → Judged tables before «record».now result }
 {
-    super::gather(43, &[text::blank(text::field(record, 20, 45))])
+    gather(43, &[text::blank(LAST_NAME.of(record))])
 }
 
 // ---- REC
 
-fn release_date(record: &[u8]) -> &[u8]
-    requires { RecordingRecord «record».now }
-    ensures { (result.now ≡ release_date «record».now) × (length result.now ≡ 8) }
-{
-    text::field(record, 20, 8)
+const RELEASE_DATE: Field = Field(20, 8);
+
+const RELEASE_DURATION: Field = Field(88, 6);
+
+const REST: Field = Field(99, 442);
+
+// The bytes of a REC record, whose type and length have been seen to.
+#[derive(Drop)]
+struct Release<'a> {
+    bytes: &'a [u8],
 }
 
-fn release_duration(record: &[u8]) -> &[u8]
-    requires { RecordingRecord «record».now }
-    ensures { (result.now ≡ release_duration «record».now) × (length result.now ≡ 6) }
-{
-    text::field(record, 88, 6)
+impl<'a> Model for Release<'a> {
+    ghost Value = { Bytes };
+
+    ghost view = { λ r. r.bytes.now };
+
+    ghost invariant = { λ r. RecordingRecord r.bytes.now };
 }
 
-// Release date not zeros and invalid.
-fn found_45(record: &[u8]) -> bool
-    requires { RecordingRecord «record».now }
-    ensures { result ≡ is45 «record».now }
-{
-    let date = release_date(record);
-    !values::zeros(date) & !values::date(date)
-}
-
-// Duration invalid.
-fn found_46(record: &[u8]) -> bool
-    requires { RecordingRecord «record».now }
-    ensures { result ≡ is46 «record».now }
-{
-    !values::duration(release_duration(record))
-}
-
-// With these defaults in force date and duration are zeros, and 99 to 540 is blank.
-fn found_44(record: &[u8], b45: bool, b46: bool) -> bool
-    requires recording_record { RecordingRecord «record».now }
-    requires b45_value { (b45 ≡ is45 «record».now) × (b46 ≡ is46 «record».now) }
-    ensures { result ≡ is44 «record».now }
-{
-    let date = b45 | values::zeros(release_date(record));
-    let duration = b46 | values::zeros(release_duration(record));
-    if !(date & duration) {
-        return false;
+impl Release<'_> {
+    // Release date not zeros and invalid.
+    fn found_45(&self) -> bool
+        ensures { result ≡ is45 self.now }
+    {
+        let date = RELEASE_DATE.of(self.bytes);
+        !values::zeros(date) & !values::date(date)
     }
-    text::blank(text::field(record, 99, 442))
+
+    // Duration invalid.
+    fn found_46(&self) -> bool
+        ensures { result ≡ is46 self.now }
+    {
+        !values::duration(RELEASE_DURATION.of(self.bytes))
+    }
+
+    // With these defaults in force date and duration are zeros, and 99 to 540 is blank.
+    fn found_44(&self, b45: bool, b46: bool) -> bool
+        requires { (b45 ≡ is45 self.now) × (b46 ≡ is46 self.now) }
+        ensures { result ≡ is44 self.now }
+    {
+        let date = b45 | values::zeros(RELEASE_DATE.of(self.bytes));
+        let duration = b46 | values::zeros(RELEASE_DURATION.of(self.bytes));
+        date & duration && text::blank(REST.of(self.bytes))
+    }
 }
 
-fn recording(record: &[u8]) -> Found
-    requires { RecordingRecord «record».now }
-    ensures { (tables : Tables) (before : List Bytes) → Judged tables before «record».now result }
+fn recording(bytes: &[u8]) -> Found
+    requires { RecordingRecord bytes.now }
+    ensures { (tables : Tables) (before : List Bytes) → Judged tables before bytes.now result }
 {
-    let b45 = found_45(record);
-    let b46 = found_46(record);
-    super::gather(44, &[found_44(record, b45, b46), b45, b46])
+    let record = Release { bytes };
+    let b45 = record.found_45();
+    let b46 = record.found_46();
+    gather(44, &[record.found_44(b45, b46), b45, b46])
 }
 
 // ---- together
@@ -104,8 +112,8 @@ pub fn judge(record: &[u8], row: Row) -> Found
     requires { Stands row «record».now × (row.sort ≡ 2 → ⊥) × (row.sort ≡ 3 → ⊥) }
     ensures { (tables : Tables) (before : List Bytes) → Judged tables before «record».now result }
 {
-    let sort = row.sort;
-    match sort {
+    match row.sort {
+        // Two arms: after `EWT | VER` the proof knows neither.
         EWT => version(record),
         VER => version(record),
         PER => performer(record),

@@ -17,24 +17,6 @@ use Rattle.findings.proofs.Laws.{set_below, set_after, worst-late, worst-after}
 use Rattle.edits.specs.declared.Found.{Found}
 use Rattle.headers.specs.Headed.{Gathered}
 
--- ---- bytes compared the other way round
-
-eqb-sym : (m n : ℕ) → eqb m n ≡ eqb n m
-eqb-sym zero zero = refl
-eqb-sym zero (suc n) = eqb-zero-suc n ∙ sym (eqb-suc-zero n)
-eqb-sym (suc m) zero = eqb-suc-zero m ∙ sym (eqb-zero-suc m)
-eqb-sym (suc m) (suc n) = eqb-suc-suc m n ∙ eqb-sym m n ∙ sym (eqb-suc-suc n m)
-
-same-sym : (s t : Bytes) → same_bytes s t ≡ same_bytes t s
-same-sym [] [] = refl
-same-sym [] (y ∷ t) = refl
-same-sym (x ∷ s) [] = refl
-same-sym (x ∷ s) (y ∷ t) = rw (eqb-sym x y, same-sym s t)
-
--- a field that was compared with s
-pub same-as : (f g s : Bytes) (b : Bool) → b ≡ same_bytes f s → f ≡ g → b ≡ same_bytes s g
-same-as f g s b e q = e ∙ ap (λ (x : Bytes). same_bytes x s) q ∙ same-sym g s
-
 -- ---- a record's own findings begin at 16
 
 pub own-late : (tables : Tables) (before : List Bytes) (r : Bytes) → own_findings tables before r ≡ replicate 16 false ++ field_findings tables before r

@@ -5,7 +5,7 @@ ghost use Rattle.std.specs.Prelude.{◌≡◌, Bool, false, List, [], ◌∷◌,
 ghost use Rattle.format.specs.Bytes.{Bytes};
 ghost use Rattle.rules.specs.Tables.{Tables};
 ghost use Rattle.rules.specs.Values.{largest_tolerance};
-ghost use Rattle.rules.specs.Writers.{version_type, relationship, is4, is5, is6, is7, is10};
+ghost use Rattle.rules.specs.Writers.{is4, is5, is6, is7, is10};
 ghost use Rattle.rules.specs.Works.{is0, is9, is15};
 ghost use Rattle.rules.specs.Findings.{set_of, worst};
 ghost use Rattle.totals.specs.Sums.{Below};
@@ -15,7 +15,8 @@ ghost use Rattle.edits.specs.Judged.{Judged};
 ghost use Rattle.tally.specs.Known.{Known};
 ghost use Rattle.headers.specs.Headed.{Linked, Gathered, Headed};
 
-use edits::Found;
+use edits::header::Header;
+use edits::{Field, Found, is_code};
 use tally::Tally;
 use tally::marks::Marks;
 
@@ -37,12 +38,16 @@ pub struct Head {
     pub stray: bool,
 }
 
+const TYPE: Field = Field(1, 3);
+// Of text and music.
+const RELATIONSHIP: Field = Field(137, 3);
+const VERSION_TYPE: Field = Field(143, 3);
+
 // The header's type is not the one that GRH names.
-fn found_0(header: &[u8], named: &[u8]) -> bool
-    requires { HeaderRecord header.now }
+fn found_0(header: &Header, named: &[u8]) -> bool
     ensures { result ≡ is0 named.now header.now }
 {
-    !text::is_three(named, header[0], header[1], header[2])
+    !is_code(TYPE.of(header.bytes), named)
 }
 
 // No writer.
@@ -59,51 +64,32 @@ fn found_5(marks: Marks) -> bool
     !marks.creator
 }
 
-fn version_type(header: &[u8]) -> &[u8]
-    requires { HeaderRecord header.now }
-    ensures { result.now ≡ version_type header.now }
-{
-    text::field(header, 143, 3)
-}
-
-// Of text and music.
-fn relationship(header: &[u8]) -> &[u8]
-    requires { HeaderRecord header.now }
-    ensures { result.now ≡ relationship header.now }
-{
-    text::field(header, 137, 3)
-}
-
 // A modified version, and no writer that changes a work.
-fn found_6(header: &[u8], marks: Marks) -> bool
-    requires { HeaderRecord header.now }
+fn found_6(header: &Header, marks: Marks) -> bool
     ensures { (ds : List Bytes) → Marked marks ds → result ≡ is6 header.now ds }
 {
-    text::is_three(version_type(header), b'M', b'O', b'D') & !marks.changer
+    is_code(VERSION_TYPE.of(header.bytes), b"MOD") & !marks.changer
 }
 
 // An original work, and such a writer.
-fn found_7(header: &[u8], marks: Marks) -> bool
-    requires { HeaderRecord header.now }
+fn found_7(header: &Header, marks: Marks) -> bool
     ensures { (ds : List Bytes) → Marked marks ds → result ≡ is7 header.now ds }
 {
-    text::is_three(version_type(header), b'O', b'R', b'I') & marks.changer
+    is_code(VERSION_TYPE.of(header.bytes), b"ORI") & marks.changer
 }
 
 // Category SER, and neither INS nor IND.
-fn found_9(header: &[u8], marks: Marks) -> bool
-    requires { HeaderRecord header.now }
+fn found_9(header: &Header, marks: Marks) -> bool
     ensures { (ds : List Bytes) → Marked marks ds → result ≡ is9 header.now ds }
 {
-    edits::header::is_serious(header) & !marks.instrument
+    header.is_serious() & !marks.instrument
 }
 
 // Music alone by the relationship of text and music, and a writer of text.
-fn found_10(header: &[u8], marks: Marks) -> bool
-    requires { HeaderRecord header.now }
+fn found_10(header: &Header, marks: Marks) -> bool
     ensures { (ds : List Bytes) → Marked marks ds → result ≡ is10 header.now ds }
 {
-    text::is_three(relationship(header), b'M', b'U', b'S') & marks.author
+    is_code(RELATIONSHIP.of(header.bytes), b"MUS") & marks.author
 }
 
 // More than one EWT, or more than one VER.
@@ -122,42 +108,40 @@ fn join(stray: bool, works: Found, own: Found) -> Head
         → own.set ≡ set_of (replicate 16 false ++ rest) → own.level ≡ worst (replicate 16 false ++ rest)
         → Gathered (stray ∷ fifteen ++ rest) stray result }
 {
-    let set = choice::bit(stray) + works.set + 65536 * (own.set / 65536);
-    let level = findings::larger(works.level, own.level);
+    let level = works.level.max(own.level);
     Head {
-        set: set,
+        set: u64::from(stray) + works.set + 65536 * (own.set / 65536),
         level: choice::byte(stray, findings::GR, level),
         rejects: (works.level == findings::TR) | (own.level == findings::TR),
-        stray: stray,
+        stray,
     }
 }
 
 // What a header has, where y knows the details and links their chains, and own is what the header's own fields have. named is the type that
 // GRH names, and t the tolerance.
-pub fn judge(header: &[u8], named: &[u8], own: Found, y: Tally, links: Links, t: u64) -> Head
-    requires header_record { HeaderRecord header.now }
+pub fn judge(bytes: &[u8], named: &[u8], own: Found, y: Tally, links: Links, t: u64) -> Head
+    requires header_record { HeaderRecord bytes.now }
     requires t_le_largest_tolerance { t ≤ largest_tolerance }
     requires below { Below (2 ^ 60) y.totals }
-    ensures { (tables : Tables) (ds : List Bytes) → Known y ds → Linked links ds → Judged tables [] header.entry.now own
-        → Headed tables t named.now (record { header = header.entry.now; details = ds }) result }
+    ensures { (tables : Tables) (ds : List Bytes) → Known y ds → Linked links ds → Judged tables [] bytes.now own
+        → Headed tables t named.now (record { header = bytes.now; details = ds }) result }
 {
-    let totals = y.totals;
-    let order = y.order;
+    let header = Header { bytes };
     let marks = y.marks;
-    let stray = found_0(header, named);
+    let stray = found_0(&header, named);
     let works = edits::gather(
         1,
         &[
-            totals.found_1(t),
-            totals.found_2(t),
-            totals.found_3(t),
+            y.totals.found_1(t),
+            y.totals.found_2(t),
+            y.totals.found_3(t),
             found_4(marks),
             found_5(marks),
-            found_6(header, marks),
-            found_7(header, marks),
-            order.found_8(),
-            found_9(header, marks),
-            found_10(header, marks),
+            found_6(&header, marks),
+            found_7(&header, marks),
+            y.order.found_8(),
+            found_9(&header, marks),
+            found_10(&header, marks),
             links.many,
             links.shareless,
             links.joined,

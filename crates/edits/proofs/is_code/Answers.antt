@@ -1,6 +1,6 @@
 -- `edits::is_code` meets its contract. Assumes nothing.
-use Rattle.edits.proofs.Fields.{code_is}
+use Rattle.text.proofs.Laws.{sliced}
 use Rattle.edits.proofs.is_code.Goals as goal
 
 pub returns : goal.returns
-returns c = code_is c.args.a c.args.b c.args.code.now c.requires
+returns c = rw (← sliced c.args.name.now c.args.code.now) c.eq.ensures

@@ -1,4 +1,5 @@
 -- `headers::join` meets its contract. Assumes nothing.
+use Rattle.std.proofs.Common.{rules}
 use Rattle.headers.proofs.Laws.{gathered}
 use Rattle.headers.proofs.join.Goals as goal
 

@@ -12,7 +12,7 @@ join-requires c = rw c.gather-works.ensures.set_value (room _ refl)
 pub returns : goal.returns
 unfolding header_findings
 returns c tables ds k l j =
-    let h = c.args.header.now in
+    let h = c.args.bytes.now in
     let own = own-late tables [] h in
     let links = c.args.links in
     rw (

@@ -6,7 +6,7 @@ use Rattle.edits.proofs.header.judge.Goals as goal
 
 pub returns : goal.returns
 returns c tables before i =
-    own-header tables before c.args.record.now c.requires.1
+    own-header tables before c.args.bytes.now c.requires.1
     (
     c.found_16.result
     ∷ c.found_17.result

@@ -1,4 +1,5 @@
 -- `edits::other::judge` meets its contract. Assumes nothing.
+use native.Mathlib.Omega.{arith}
 use Rattle.edits.proofs.Sorts.{ewt-here, ver-here, per-here, rec-here, is-misplaced, none_found}
 use Rattle.edits.proofs.other.judge.Goals as goal
 
@@ -24,6 +25,6 @@ returns-in-9 c tables before =
 
 pub returns-in_default : goal.returns-in_default
 returns-in_default c tables before =
-    let no = c.in_default.in_default-own.rest in
     none_found c.args.row c.args.record.now c.requires.0.0.0 tables before _ c.nothing.ensures.0 c.nothing.ensures.1 c.requires.0.0.1
-    c.requires.1 c.requires.2 no.0.0.0.0.1 no.0.0.0.1 no.0.0.1 no.0.1 no.1
+    c.requires.1 c.requires.2
+    (λ e. omega arith) (λ e. omega arith) (λ e. omega arith) (λ e. omega arith) (λ e. omega arith)

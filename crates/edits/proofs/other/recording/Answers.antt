@@ -5,7 +5,7 @@ use Rattle.edits.proofs.other.recording.Goals as goal
 
 pub returns : goal.returns
 returns c tables before =
-    own-recording tables before c.args.record.now c.requires.1 _ _
+    own-recording tables before c.args.bytes.now c.requires.1 _ _
     (rw (← c.found_44.ensures, ← c.found_45-b45.ensures, ← c.found_46-b46.ensures))
     c.gather.ensures.set_value
     c.gather.ensures.level_value

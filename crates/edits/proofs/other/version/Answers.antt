@@ -9,5 +9,5 @@ use Rattle.edits.proofs.other.version.Goals as goal
 pub returns : goal.returns
 returns c tables before =
     let r = c.args.record.now in
-    let e = c.blank.ensures ∙ ap is_blank c.field.ensures.result_value ∙ version-43 r c.requires.1 in
+    let e = c.blank.ensures ∙ ap is_blank c.of.ensures.value ∙ version-43 r c.requires.1 in
     own-version tables before r c.requires.1 _ _ (rw (← e)) c.gather.ensures.set_value c.gather.ensures.level_value

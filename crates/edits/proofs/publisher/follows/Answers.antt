@@ -15,4 +15,6 @@ pub returns-in-NotDigits-last : goal.returns-in-NotDigits-last
 returns-in-NotDigits-last c before r long l h = rw (← l, ← h, c.in-NotDigits-last.is, c.in-Number.is) at (follows_is r long before)
 
 pub returns-in-Number-last : goal.returns-in-Number-last
-returns-in-Number-last c before r long l h = rw (← l, ← h, c.in-Number-last.is, c.in-Number.is) at (follows_is r long before)
+returns-in-Number-last c before r long l h =
+    rw (c.from.ensures, c.from-in-Number-last.ensures)
+    (rw (← l, ← h, c.in-Number-last.is, c.in-Number.is) at (follows_is r long before))

@@ -4,7 +4,7 @@ use Rattle.edits.proofs.publisher.judge.Goals as goal
 
 pub returns : goal.returns
 returns c tables before i reads last known =
-    let r = c.args.record.now in
+    let r = c.args.bytes.now in
     own-publisher tables before r c.requires.1 _ _
     (rw (
       ← c.found_25.ensures before last r reads,

@@ -4,7 +4,7 @@ use Rattle.edits.proofs.writer.judge.Goals as goal
 
 pub returns : goal.returns
 returns c tables before reads =
-    let r = c.args.record.now in
+    let r = c.args.bytes.now in
     own-writer tables before r c.requires.1 _ _
     (rw (
       ← c.found_38.ensures reads,

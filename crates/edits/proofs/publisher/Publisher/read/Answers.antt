@@ -8,23 +8,23 @@ pub returns : goal.returns
 unfolding is30
 returns c =
     let shares = c.read_shares-shares.ensures in
-    let pr = c.share_pr.ensures.0 in
-    let mr = c.share_mr.ensures.0 in
-    let sr = c.share_sr.ensures.0 in
-    let mark = c.indicator-indicator in
+    let pr = c.of.ensures.value in
+    let mr = c.of-2.ensures.value in
+    let sr = c.of-3.ensures.value in
+    let mark = c.of-indicator in
     let type = c.read_type-t.ensures in
     let spu = c.is_spu-spu.ensures in record {
       publisher_reads = record {
         kind = c.requires;
-        spu = spu.value;
-        opu = spu.result_value;
-        sequence = c.read_sequence-sequence.ensures.value;
-        indicator = spelled 1 mark.result.now mark.ensures.1 ∙ mark.ensures.0;
+        spu = spu.spu;
+        opu = spu.opu;
+        sequence = c.read_sequence.ensures.value;
+        indicator = spelled 1 mark.result.now mark.ensures.long ∙ mark.ensures.value;
         listed = type.listed_value;
-        e = (type.e_value spu.result_value).0;
-        aq = (type.e_value spu.result_value).1;
+        e = (type.e_value spu.opu).0;
+        aq = (type.e_value spu.opu).1;
         shares = shares.counts_value ∙ rw (pr, mr, sr);
         bad = shares.bad_value ∙ rw (c.requires.1, pr, mr, sr);
       };
-      bounded = (shares.at_most, c.read_sequence-sequence.ensures.below100);
+      bounded = (shares.at_most, c.read_sequence.ensures.below100);
     }

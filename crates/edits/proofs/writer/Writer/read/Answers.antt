@@ -7,14 +7,14 @@ pub returns : goal.returns
 unfolding is41
 returns c =
     let shares = c.read_shares-shares.ensures in
-    let pr = c.share_pr.ensures.0 in
-    let mr = c.share_mr.ensures.0 in
-    let sr = c.share_sr.ensures.0 in
-    let roles = c.read_roles-d.ensures in record {
+    let pr = c.of.ensures.value in
+    let mr = c.of-2.ensures.value in
+    let sr = c.of-3.ensures.value in
+    let roles = c.read_roles-roles.ensures in record {
       writer_reads = record {
         kind = c.requires;
-        swr = c.is_swr.ensures.value;
-        owr = c.is_swr.ensures.result_value;
+        swr = c.is_swr.ensures.swr;
+        owr = c.is_swr.ensures.owr;
         listed = roles.listed_value;
         creator = roles.creator_value;
         changer = roles.changer_value;

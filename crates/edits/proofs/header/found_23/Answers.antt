@@ -1,8 +1,0 @@
--- `edits::header::found_23` meets its contract.
--- Assumes nothing.
-use Rattle.rules.specs.Header.{is23}
-use Rattle.edits.proofs.header.found_23.Goals as goal
-
-pub returns : goal.returns
-unfolding is23
-returns c = rw c.requires.1 (cc)
