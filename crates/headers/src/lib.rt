@@ -111,7 +111,7 @@ fn join(stray: bool, works: Found, own: Found) -> Head
     let level = works.level.max(own.level);
     Head {
         set: u64::from(stray) + works.set + 65536 * (own.set / 65536),
-        level: choice::byte(stray, findings::GR, level),
+        level: choice::pick(stray, findings::GR, level),
         rejects: (works.level == findings::TR) | (own.level == findings::TR),
         stray,
     }

@@ -7,9 +7,9 @@ pub returns : goal.returns
 returns c fifteen rest long w-set w-level o-set o-level =
     let g = c.args in
     gathered g.stray fifteen rest long g.works g.own w-set w-level o-set o-level
-    c.bit.result
-    c.larger-level.result
-    c.byte.result
-    c.bit.ensures.value
-    c.larger-level.ensures
-    c.byte.ensures
+    c.from.result
+    c.max-level.result
+    c.pick.result
+    c.from.ensures
+    c.max-level.ensures
+    c.pick.ensures
