@@ -8,8 +8,8 @@ ghost use Rattle.edits.specs.Kinds.{HeaderRecord};
 ghost use Rattle.edits.specs.Judged.{Judged};
 
 use super::{Field, Found, gather, is_code};
-use tables::{Slots, Table};
 use std::marker::Model;
+use tables::{Slots, Table};
 
 // ---- fields
 

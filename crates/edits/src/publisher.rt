@@ -12,8 +12,8 @@ ghost use Rattle.edits.specs.Readings.{PublisherReads, FindsPublisher, Below100,
 ghost use Rattle.edits.specs.Judged.{Judged};
 
 use super::{Field, Found, gather, is_code, read_shares};
-use tables::{Slots, Table};
 use std::marker::Model;
+use tables::{Slots, Table};
 use totals::Rights;
 use values::Share;
 
@@ -287,13 +287,7 @@ impl Record<'_> {
 // ---- together
 
 // last is the sequence number of the publisher record before, and known says that an E SPU of the chain stands before.
-pub fn judge(
-    p: Publisher,
-    bytes: &[u8],
-    slots: &Slots,
-    last: Sequence,
-    known: bool,
-) -> Found
+pub fn judge(p: Publisher, bytes: &[u8], slots: &Slots, last: Sequence, known: bool) -> Found
     requires { PublisherRecord bytes.now }
     ensures { (tables : Tables) (before : List Bytes) → Indexed tables slots.now → PublisherReads p bytes.now
         → last ≡ last_sequence before → known ≡ earlier_e before bytes.now → Judged tables before bytes.now result }

@@ -3,12 +3,12 @@ use mathlib.Core.Path.{◌≡◌, refl, sym, ap, ◌∙◌}
 use mathlib.Core.Bool.{Bool, true, false, cond, ◌&&◌, ◌||◌, and-false}
 use mathlib.Core.Option.{none, some}
 use mathlib.Core.List.{List, [], ◌∷◌, ◌++◌}
-use Prim.Native.Nat.{ℕ, zero, suc, ◌+◌, ◌*◌, ◌/◌, ◌≤◌}
+use Prim.Native.Nat.{ℕ, suc, ◌+◌, ◌*◌, ◌/◌, ◌≤◌}
 use native.Mathlib.Omega.{arith}
-use lib.Dec.{leb, eqb, leb-zero, eqb-zero-suc, eqb-suc-zero, eqb-suc-suc}
+use lib.Dec.{leb, eqb, leb-zero, eqb-suc-zero}
 use lib.ListN.{length, replicate}
 use borrow.Author.Tests.{leb-true, leb-false, eqb-true, ne_eqb}
-use Rattle.format.specs.Bytes.{Bytes, same_bytes}
+use Rattle.format.specs.Bytes.{Bytes}
 use Rattle.rules.specs.Tables.{Tables}
 use Rattle.rules.specs.Findings.{field_findings, own_findings, set_of, FR, RR, TR, level, verdict_of, larger, worst_from, worst}
 use Rattle.rules.specs.Verdicts.{rejects_from, rejects}

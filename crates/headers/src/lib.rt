@@ -41,6 +41,7 @@ pub struct Head {
 const TYPE: Field = Field(1, 3);
 // Of text and music.
 const RELATIONSHIP: Field = Field(137, 3);
+
 const VERSION_TYPE: Field = Field(143, 3);
 
 // The header's type is not the one that GRH names.

@@ -10,6 +10,6 @@ returns c fifteen rest long w-set w-level o-set o-level =
     c.from.result
     c.max-level.result
     c.pick.result
-    c.from.ensures
-    c.max-level.ensures
+    (search rules)
+    (search rules)
     c.pick.ensures
