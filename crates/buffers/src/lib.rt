@@ -30,9 +30,7 @@ pub fn least(raises: bool, verdict: u8) -> u8
 pub fn raise(part: &mut [u8], least: u8)
     ensures { part.new ≡ raised least part.old }
 {
-    let mut i = 0;
-    while i < part.len() {
-        part[i] = findings::larger(least, part[i]);
-        i += 1;
+    for verdict in part {
+        *verdict = least.max(*verdict);
     }
 }

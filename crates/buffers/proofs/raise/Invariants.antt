@@ -1,12 +1,9 @@
 use mathlib.Core.Path.{◌≡◌}
 use mathlib.Core.List.{◌++◌}
-use Prim.Native.Nat.{◌-◌}
-use lib.ListN.{length, take, drop}
+use lib.ListN.{take, drop}
 use Rattle.rules.specs.Verdicts.{raised}
 use Rattle.buffers.proofs.raise.Given as goal
 
-abbrev pub invariant-loop-i : goal.invariant-loop-i
-invariant-loop-i l = (length l.part ≡ length l.initial.part) × (take l.i l.part ++ raised l.least (drop l.i l.part) ≡ raised l.least l.initial.part)
-
-abbrev pub decreases-loop-i : goal.decreases-loop-i
-decreases-loop-i l = length l.part - l.i
+abbrev pub invariant-loop-verdict : goal.invariant-loop-verdict
+invariant-loop-verdict l =
+    take l.verdict-index l.verdict-items ++ raised l.least (drop l.verdict-index l.verdict-items) ≡ raised l.least l.initial.verdict-items
