@@ -4,65 +4,68 @@ use native.Mathlib.Omega.{arith}
 use mathlib.Core.Path.{◌≡◌, refl, sym, ap, ◌∙◌}
 use mathlib.Core.List.{[], ◌∷◌}
 use lib.ListN.{get_or}
+use Rattle.std.specs.Prelude.{Result, Ok, Err}
 use Rattle.format.specs.Structure.{Answer as FormatAnswer, refused, passed}
 use Rattle.format.specs.Claims.{Near}
-use Rattle.answers.specs.declared.Answer.{Answer}
-use Rattle.answers.specs.declared.Answer.TheVariants.{Tolerance, Table, Long, Many, Line, Shape}
-use Rattle.answers.specs.declared.Answer.TheVariants.{Place, Number, Total, Version, Short, Full, Territories, Crowded, Passed}
+use Rattle.answers.specs.declared.Passed.{Passed}
+use Rattle.answers.specs.declared.Refusal.{Refusal}
+use Rattle.answers.specs.declared.Refusal.TheVariants.{Tolerance, Table, Long, Many, Line, Shape}
+use Rattle.answers.specs.declared.Refusal.TheVariants.{Place, Number, Total, Version, Short, Full, Territories, Crowded}
 use Rattle.answers.specs.Numbers.{answer_of, exact}
 use Rattle.answers.specs.Claims.{Alike, Named, Says, NothingLost}
 
 -- ---- the cases
 
 -- the case of a refusal, by its number (0 is none), or of the three numbers
-case_of : FormatAnswer → Answer
+case_of : FormatAnswer → Result Passed Refusal
 case_of (refused n i) =
-    get_or
+    Err
+    (get_or
     (Crowded i ∷ Tolerance ∷ Table i ∷ Long ∷ Line i ∷ Many ∷ Shape i ∷ Place i ∷ Number i ∷ Total i ∷ Version ∷ Short ∷ Full
     ∷ Territories ∷ [])
     n
-    (Crowded i)
-case_of (passed g m r) = Passed g m r
+    (Crowded i))
+case_of (passed g m r) = Ok (record { groups = g; transactions = m; records = r })
 
-case-found : (a : Answer) → case_of (answer_of a) ≡ a
+case-found : (a : Result Passed Refusal) → case_of (answer_of a) ≡ a
 unfolding case_of
-case-found Tolerance = refl
-case-found (Table i) = refl
-case-found Long = refl
-case-found Many = refl
-case-found (Line i) = refl
-case-found (Shape i) = refl
-case-found (Place i) = refl
-case-found (Number i) = refl
-case-found (Total i) = refl
-case-found Version = refl
-case-found Short = refl
-case-found Full = refl
-case-found Territories = refl
-case-found (Crowded i) = refl
-case-found (Passed g m r) = refl
+case-found (Ok p) = refl
+case-found (Err Tolerance) = refl
+case-found (Err (Table i)) = refl
+case-found (Err Long) = refl
+case-found (Err Many) = refl
+case-found (Err (Line i)) = refl
+case-found (Err (Shape i)) = refl
+case-found (Err (Place i)) = refl
+case-found (Err (Number i)) = refl
+case-found (Err (Total i)) = refl
+case-found (Err Version) = refl
+case-found (Err Short) = refl
+case-found (Err Full) = refl
+case-found (Err Territories) = refl
+case-found (Err (Crowded i)) = refl
 
-pub answer-alone : (a b : Answer) → answer_of a ≡ answer_of b → a ≡ b
+pub answer-alone : (a b : Result Passed Refusal) → answer_of a ≡ answer_of b → a ≡ b
 answer-alone a b e = sym (case-found a) ∙ ap case_of e ∙ case-found b
 
 -- ---- in one number
 
-pub named : (a : Answer) → Named (answer_of a)
-named Tolerance = omega arith
-named (Table i) = omega arith
-named Long = omega arith
-named Many = omega arith
-named (Line i) = omega arith
-named (Shape i) = omega arith
-named (Place i) = omega arith
-named (Number i) = omega arith
-named (Total i) = omega arith
-named Version = omega arith
-named Short = omega arith
-named Full = omega arith
-named Territories = omega arith
-named (Crowded i) = omega arith
-named (Passed g m r) = tt
+pub named : (a : Result Passed Refusal) → Named (answer_of a)
+named (Ok p) = tt
+named (Err Tolerance) = omega arith
+named (Err (Table i)) = omega arith
+named (Err Long) = omega arith
+named (Err Many) = omega arith
+named (Err (Line i)) = omega arith
+named (Err (Shape i)) = omega arith
+named (Err (Place i)) = omega arith
+named (Err (Number i)) = omega arith
+named (Err (Total i)) = omega arith
+named (Err Version) = omega arith
+named (Err Short) = omega arith
+named (Err Full) = omega arith
+named (Err Territories) = omega arith
+named (Err (Crowded i)) = omega arith
 
 pub exact-says : (a : FormatAnswer) → Near a → Says (exact a) a
 exact-says (refused n i) h = (omega arith, omega arith)

@@ -1,8 +1,9 @@
 -- What an answer still says when it is told by number and place, or in one number. proofs/Alone.antt has the proofs.
-use Rattle.std.specs.Prelude.{ℕ, ◌+◌, ◌/◌, ◌%◌, ◌^◌, ◌≤◌, ◌≡◌}
+use Rattle.std.specs.Prelude.{ℕ, ◌+◌, ◌/◌, ◌%◌, ◌^◌, ◌≤◌, ◌≡◌, Result}
 use Rattle.format.specs.Structure.{Answer as FormatAnswer, refused, passed}
 use Rattle.format.specs.Claims.{Near}
-use Rattle.answers.specs.declared.Answer.{Answer}
+use Rattle.answers.specs.declared.Passed.{Passed}
+use Rattle.answers.specs.declared.Refusal.{Refusal}
 use Rattle.answers.specs.Numbers.{answer_of, told_of, exact}
 
 -- the same refusal at the same place; or both passed, with as many records
@@ -24,8 +25,8 @@ Says r a = (r / 2 ^ 32 ≡ (told_of a).refusal) × (r % 2 ^ 32 ≡ (told_of a).p
 
 pub record NothingLost : Type 0 where
   -- no two cases of the answer stand for the same number and place, and each number is 1 or more
-  pub cases : (a b : Answer) → answer_of a ≡ answer_of b → a ≡ b
-  pub named : (a : Answer) → Named (answer_of a)
+  pub cases : (a b : Result Passed Refusal) → answer_of a ≡ answer_of b → a ≡ b
+  pub named : (a : Result Passed Refusal) → Named (answer_of a)
   -- within the size limits the one number says it,
   pub says : (a : FormatAnswer) → Near a → Says (exact a) a
   -- so that two answers with the same number are alike

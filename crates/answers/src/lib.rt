@@ -1,14 +1,14 @@
-// What a call answers: a refusal, by its ground, or how many groups, transactions and records passed. specs/Numbers.antt gives each
-// case its number and place.
+// What a call answers: how many groups, transactions and records passed, or a refusal, by its ground. specs/Numbers.antt gives each
+// refusal its number and place.
 #![tactic(auto)]
 
 ghost use Rattle.std.specs.Prelude.{◌≡◌, ◌≤◌};
 ghost use Rattle.format.specs.Structure.{refused};
-ghost use Rattle.answers.specs.Numbers.{answer_of, told_of, is_passed};
+ghost use Rattle.answers.specs.Numbers.{answer_of, refused_of};
 ghost use Rattle.answers.specs.Packed.{packed_of};
 
 #[derive(Clone, Copy)]
-pub enum Answer {
+pub enum Refusal {
     // 1, 2: the tolerance; which of the three tables.
     Tolerance,
     Table(usize),
@@ -29,96 +29,57 @@ pub enum Answer {
     // 13, 14: the territory table; a transaction's header, whose claims are more than the list has entries.
     Territories,
     Crowded(usize),
-    Passed(u64, u64, u64),
 }
 
-// The most records that a file may have, and the place of the refusal of more.
-pub const MOST_RECORDS: usize = 131072;
-
-// An answer in numbers; those that it has not are 0.
+// How many there are of each in what passed.
 #[derive(Clone, Copy)]
-pub struct Told {
-    pub passes: bool,
-    // The refusal's number and its place.
-    pub refusal: u64,
-    pub place: u64,
-    // What passed.
+pub struct Passed {
     pub groups: u64,
     pub transactions: u64,
     pub records: u64,
 }
 
-fn refusal(number: u64, place: usize) -> Told
-    requires { number ≤ 14 }
-    ensures value { result ≡ told_of (refused number place) }
-    ensures refusal_bound { result.refusal ≤ 14 }
-{
-    Told {
-        passes: false,
-        refusal: number,
-        place: place as u64,
-        groups: 0,
-        transactions: 0,
-        records: 0,
+pub type Answer = Result<Passed, Refusal>;
+
+// The most records that a file may have, and the place of the refusal of more.
+pub const MOST_RECORDS: usize = 131072;
+
+impl Refusal {
+    // Its number and its place, 0 where it has none. Nowhere else in code is a refusal given its number.
+    pub fn told(self) -> (u64, u64)
+        ensures value { refused result.0 result.1 ≡ refused_of self }
+        ensures number_bound { result.0 ≤ 14 }
+    {
+        let (number, place) = match self {
+            Refusal::Tolerance => (1, 0),
+            Refusal::Table(i) => (2, i),
+            Refusal::Long => (3, 0),
+            Refusal::Line(i) => (4, i),
+            Refusal::Many => (5, MOST_RECORDS),
+            Refusal::Shape(i) => (6, i),
+            Refusal::Place(i) => (7, i),
+            Refusal::Number(i) => (8, i),
+            Refusal::Total(i) => (9, i),
+            Refusal::Version => (10, 0),
+            Refusal::Short => (11, 0),
+            Refusal::Full => (12, 0),
+            Refusal::Territories => (13, 0),
+            Refusal::Crowded(i) => (14, i),
+        };
+        (number, place as u64)
     }
 }
 
-// A refusal in one number. An answer may hold any place, so its last 32 bits are taken; within the size limits they are the whole place.
-fn pack(number: u64, place: u64) -> u64
-    requires { number ≤ 14 }
-    ensures { result ≡ packed_of (refused number place) }
+// An answer in one number: the records that passed, or the refusal's number and its place. A refusal may hold any place, so its last
+// 32 bits are taken; within the size limits they are the whole place.
+pub fn packed(answer: Answer) -> u64
+    ensures { result ≡ packed_of (answer_of answer) }
 {
-    number * 4294967296 + place % 4294967296
-}
-
-impl Answer {
-    // In numbers. Nowhere else in code is a refusal given its number.
-    pub fn told(self) -> Told
-        ensures value { result ≡ told_of (answer_of self) }
-        ensures refusal_bound { result.refusal ≤ 14 }
-    {
-        match self {
-            Answer::Tolerance => refusal(1, 0),
-            Answer::Table(i) => refusal(2, i),
-            Answer::Long => refusal(3, 0),
-            Answer::Line(i) => refusal(4, i),
-            Answer::Many => refusal(5, MOST_RECORDS),
-            Answer::Shape(i) => refusal(6, i),
-            Answer::Place(i) => refusal(7, i),
-            Answer::Number(i) => refusal(8, i),
-            Answer::Total(i) => refusal(9, i),
-            Answer::Version => refusal(10, 0),
-            Answer::Short => refusal(11, 0),
-            Answer::Full => refusal(12, 0),
-            Answer::Territories => refusal(13, 0),
-            Answer::Crowded(i) => refusal(14, i),
-            Answer::Passed(groups, transactions, records) => Told {
-                passes: true,
-                refusal: 0,
-                place: 0,
-                groups: groups,
-                transactions: transactions,
-                records: records,
-            },
+    match answer {
+        Ok(passed) => passed.records,
+        Err(refusal) => {
+            let (number, place) = refusal.told();
+            number * 4294967296 + place % 4294967296
         }
-    }
-
-    // Whether it is no refusal.
-    pub fn passes(self) -> bool
-        ensures { result ≡ is_passed (answer_of self) }
-    {
-        let told = self.told();
-        told.passes
-    }
-
-    // In one number.
-    pub fn packed(self) -> u64
-        ensures { result ≡ packed_of (answer_of self) }
-    {
-        let told = self.told();
-        if told.passes {
-            return told.records;
-        }
-        pack(told.refusal, told.place)
     }
 }
