@@ -5,6 +5,10 @@ use mathlib.Core.Path.{◌≡◌, refl, sym, ap, ◌∙◌}
 use mathlib.Core.Bool.{Bool, true, false, cond, false≢true}
 use mathlib.Core.List.{[], ◌∷◌}
 use Rattle.std.specs.Prelude.{Result, Ok, Err}
+use Rattle.std.specs.Result.{MatchResult, IsErrAnd}
+use Rattle.std.proofs.lemmas.Result.{err_from_is_err_and}
+use Rattle.answers.specs.declared.Refusal.{Refusal}
+use Rattle.answers.specs.declared.Refusal.TheVariants.{Line}
 use lib.ListN.{length, take}
 use lib.Dec.{leb}
 use borrow.Author.Tests.{le-leb, lt-leb}
@@ -25,6 +29,13 @@ use Rattle.structure.proofs.Here.{good-first}
 
 never : (a b : ℕ) → ◌≡◌ {A = Result ℕ ℕ} (Ok a) (Err b) → ⊥
 never a b e = let z : ◌≡◌ {A = ℕ} 0 1 = cc in omega arith
+
+-- a line's fault goes out as a refusal
+pub told-err : {m : Result ℕ Refusal} {d : Refusal} (r : Result ℕ ℕ)
+    → MatchResult r (λ n. m ≡ Ok n) (λ k. IsErrAnd m (λ (d : Refusal). d ≡ Line k))
+    → m ≡ Err d → (k : ℕ) × (r ≡ Err k) × (d ≡ Line k)
+told-err {m} {d} (Ok n) h e = absurd (let z : ◌≡◌ {A = Result ℕ Refusal} (Ok n) (Err d) = sym h ∙ e in cc)
+told-err {m} {d} (Err k) h e = let p = err_from_is_err_and m h in let q : Err d ≡ Err p.0 = sym e ∙ p.1 in (k, refl, cc)
 
 module _ (asked version : Bool) (p : Class) (n : Counts) (i : ℕ) (e : i ≡ n.records) where
   pub lines-fault : (ls : Lines) (k : ℕ) → scanned i ls ≡ Err k → refused 4 k ≡ lines_from cwr22 asked version p n ls

@@ -1,5 +1,5 @@
 -- Internal: where a walk over a file stands, what it has met, and what it asks of a record.
-use Rattle.std.specs.Prelude.{ℕ, zero, suc, ◌+◌, ◌≤◌, ◌≡◌, Bool, true, not, ◌||◌, length, take, drop}
+use Rattle.std.specs.Prelude.{ℕ, ◌+◌, ◌≤◌, ◌≡◌, Bool, true, not, ◌||◌, length, take, drop, Option as CodeOption, None, Some}
 use Rattle.std.proofs.Math.Option.{Option, none, some}
 use Rattle.format.specs.Bytes.{Bytes, same_bytes, every, is_text, begins_pair}
 use Rattle.format.specs.Table.{at, width, unknown}
@@ -49,10 +49,10 @@ pub record Next (s : Stand) (l p : ℕ) (r : Stand) : Type 0 where
   pub kept : Kept r.counts
   pub records : r.counts.records ≡ s.counts.records + 1
 
--- the place of a fault as code has it: 0 for none, else one more
-abbrev pub fault_in : ℕ → Option ℕ
-fault_in zero = none
-fault_in (suc n) = some n
+-- the place of a fault as code has it
+abbrev pub fault_in : CodeOption ℕ → Option ℕ
+fault_in None = none
+fault_in (Some n) = some n
 
 abbrev pub faults_of : FirstFaults → Faults
 faults_of m = record { seven = fault_in m.seven; eight = fault_in m.eight; nine = fault_in m.nine }

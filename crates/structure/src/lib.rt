@@ -13,10 +13,10 @@ ghost use Rattle.format.specs.Numbering.{numbering, records_in};
 ghost use Rattle.answers.specs.Numbers.{answer_of};
 ghost use Rattle.kinds.specs.Rows.{row_for};
 ghost use Rattle.counts.specs.Counting.{counts_in, Kept, CanGrow};
-ghost use Rattle.structure.specs.Rest.{or_else, faultless, judged_from, rest_from, more_faults, at_end, is_good};
+ghost use Rattle.structure.specs.Rest.{faultless, judged_from, rest_from, more_faults, at_end, is_good};
 ghost use Rattle.structure.specs.Walk.{Roomy, Bounded, Stood, RightAt, Next, fault_in, faults_of};
 
-use answers::{Answer, MOST_RECORDS};
+use answers::{Answer, MOST_RECORDS, Passed, Refusal};
 use counts::Counts;
 use kinds::{DETAIL, GRH, GRT, HDR, HEAD, Row, TRL, UNKNOWN};
 
@@ -28,21 +28,15 @@ pub struct Stand {
     pub counts: Counts,
 }
 
-// The first faults by 7, 8 and 9 that were met: 0 for none, else the place and one.
+// The places of the first faults by 7, 8 and 9 that were met.
 #[derive(Clone, Copy)]
 pub struct FirstFaults {
-    pub seven: u64,
-    pub eight: u64,
-    pub nine: u64,
+    pub seven: Option<usize>,
+    pub eight: Option<usize>,
+    pub nine: Option<usize>,
 }
 
 const MOST_BYTES: usize = 16777216;
-
-fn index(n: u64) -> usize
-    ensures { result ≡ n }
-{
-    n as usize
-}
 
 // Whether a record of class c may stand after one of class p.
 fn follows(p: u8, c: u8) -> bool
@@ -149,15 +143,11 @@ fn walk(file: &[u8], asked: bool) -> Stand
 
 // ---- the scans for a refusal and its place
 
-// The first fault: the one that was met, or this record's.
-fn first(fault: u64, ok: bool, place: u64) -> u64
-    requires { place ≤ most_bytes }
-    ensures { fault_in result ≡ or_else (fault_in fault) (unless ok place) }
+// A fault at a place, unless the test passes.
+fn unless(ok: bool, place: usize) -> Option<usize>
+    ensures { fault_in result ≡ unless ok place }
 {
-    if fault != 0 {
-        return fault;
-    }
-    if ok { 0 } else { place + 1 }
+    if ok { None } else { Some(place) }
 }
 
 // 6: a known type, and its length.
@@ -174,13 +164,13 @@ fn more(asked: bool, s: Stand, m: FirstFaults, record: &[u8], row: Row) -> First
     ensures { faults_of result ≡ more_faults cwr22 asked (faults_of m) (class_at s.class) (counts_in s.counts) «record».now }
 {
     let counts = s.counts;
-    let n = counts.records;
+    let place = counts.records as usize;
     let held = numbered(asked, counts, row.class, record);
     let closes = (GRT == row.class) | (TRL == row.class);
     FirstFaults {
-        seven: first(m.seven, follows(s.class, row.class), n),
-        eight: first(m.eight, closes | held, n),
-        nine: first(m.nine, !closes | held, n),
+        seven: m.seven.or(unless(follows(s.class, row.class), place)),
+        eight: m.eight.or(unless(closes | held, place)),
+        nine: m.nine.or(unless(!closes | held, place)),
     }
 }
 
@@ -190,19 +180,24 @@ fn ended(version: bool, s: Stand, m: FirstFaults) -> Answer
     ensures { (asked : Bool) → answer_of result ≡ at_end cwr22 asked version (faults_of m) (class_at s.class) (counts_in s.counts) }
 {
     let counts = s.counts;
-    if m.seven != 0 {
-        Answer::Place(index(m.seven - 1))
-    } else if s.class != TRL {
-        Answer::Place(index(counts.records))
-    } else if m.eight != 0 {
-        Answer::Number(index(m.eight - 1))
-    } else if m.nine != 0 {
-        Answer::Total(index(m.nine - 1))
-    } else if version {
-        Answer::Passed(counts.groups, counts.transactions, counts.records)
-    } else {
-        Answer::Version
+    let last = unless(TRL == s.class, counts.records as usize);
+    if let Some(place) = m.seven.or(last) {
+        return Err(Refusal::Place(place));
     }
+    if let Some(place) = m.eight {
+        return Err(Refusal::Number(place));
+    }
+    if let Some(place) = m.nine {
+        return Err(Refusal::Total(place));
+    }
+    if !version {
+        return Err(Refusal::Version);
+    }
+    Ok(Passed {
+        groups: counts.groups,
+        transactions: counts.transactions,
+        records: counts.records,
+    })
 }
 
 // 6 to 10, from here on, where the lines are good.
@@ -213,9 +208,9 @@ fn judge(file: &[u8], asked: bool, version: bool, start: Stand) -> Answer
 {
     let mut s = start;
     let mut m = FirstFaults {
-        seven: 0,
-        eight: 0,
-        nine: 0,
+        seven: None,
+        eight: None,
+        nine: None,
     };
     while s.at < file.len() {
         let at = s.at;
@@ -224,7 +219,7 @@ fn judge(file: &[u8], asked: bool, version: bool, start: Stand) -> Answer
         let row = kinds::row_of(record);
         if !shaped(row, record) {
             let counts = s.counts;
-            return Answer::Shape(index(counts.records));
+            return Err(Refusal::Shape(counts.records as usize));
         }
         m = more(asked, s, m, record, row);
         s = after_record(s, row.length, row.class);
@@ -238,16 +233,11 @@ fn scan(file: &[u8], asked: bool, version: bool, s: Stand) -> Answer
     ensures { answer_of result ≡ rest_from cwr22 asked version (class_at s.class) (counts_in s.counts) (drop s.at file.now) }
 {
     let counts = s.counts;
-    match lines::lines_from(file, s.at, index(counts.records)) {
-        Err(n) => Answer::Line(n),
-        Ok(n) => {
-            if MOST_RECORDS < n {
-                Answer::Many
-            } else {
-                judge(file, asked, version, s)
-            }
-        }
+    let n = lines::lines_from(file, s.at, counts.records as usize).map_err(Refusal::Line)?;
+    if MOST_RECORDS < n {
+        return Err(Refusal::Many);
     }
+    judge(file, asked, version, s)
 }
 
 // ---- the whole file
@@ -257,7 +247,7 @@ fn answer(file: &[u8], asked: bool) -> Answer
     ensures { answer_of result ≡ cond asked (structure cwr22 file.now) (numbering cwr22 file.now) }
 {
     if MOST_BYTES < file.len() {
-        return Answer::Long;
+        return Err(Refusal::Long);
     }
     let end = lines::text_end(file, 0);
     let good = version(&file[0..end]);

@@ -1,39 +1,36 @@
 -- `structure::ended` meets its contract: one law for each ground.
 use Rattle.counts.specs.Counting.{counts_in}
-use Rattle.structure.proofs.Faults.{end-fault, end-place, end-number, end-total, end-version, end-passed}
+use Rattle.structure.proofs.Faults.{fault-first, end-place, end-number, end-total, end-version, end-passed}
 use Rattle.structure.proofs.ended.Goals as goal
 
-pub returns-then-m-ne0 : goal.returns-then-m-ne0
-returns-then-m-ne0 c =
+pub returns-in-Some : goal.returns-in-Some
+returns-in-Some c =
     let g = c.args in
-    λ asked. end-fault asked g.version g.m g.s.class (counts_in g.s.counts) _ c.if-m-ne0.true c.index.ensures
+    λ asked. end-place asked g.version g.m g.s.class (counts_in g.s.counts) c.requires _
+    (fault-first _ _ c.or.ensures c.unless-last.ensures) _ c.in-Some.is
 
-pub returns-then-s-ne-TRL : goal.returns-then-s-ne-TRL
-returns-then-s-ne-TRL c =
+pub returns-in-Some-eight : goal.returns-in-Some-eight
+returns-in-Some-eight c =
     let g = c.args in
-    λ asked. end-place asked g.version g.m g.s.class (counts_in g.s.counts) c.if-m-ne0.false c.requires _
-    c.if-s-ne-TRL.true c.index-then-s-ne-TRL.ensures
+    λ asked. end-number asked g.version g.m g.s.class (counts_in g.s.counts) c.requires _
+    (fault-first _ _ c.or.ensures c.unless-last.ensures) c.in_default.is _ c.in-Some-eight.is
 
-pub returns-then-m-ne0-2 : goal.returns-then-m-ne0-2
-returns-then-m-ne0-2 c =
+pub returns-in-Some-nine : goal.returns-in-Some-nine
+returns-in-Some-nine c =
     let g = c.args in
-    λ asked. end-number asked g.version g.m g.s.class (counts_in g.s.counts) c.if-m-ne0.false c.requires c.if-s-ne-TRL.false _
-    c.if-m-ne0-2.true c.index-then-m-ne0-2.ensures
+    λ asked. end-total asked g.version g.m g.s.class (counts_in g.s.counts) c.requires _
+    (fault-first _ _ c.or.ensures c.unless-last.ensures) c.in_default.is c.in_default-eight.is _ c.in-Some-nine.is
 
-pub returns-then-m-ne0-3 : goal.returns-then-m-ne0-3
-returns-then-m-ne0-3 c =
+pub returns-then-not-version : goal.returns-then-not-version
+returns-then-not-version c =
     let g = c.args in
-    λ asked. end-total asked g.version g.m g.s.class (counts_in g.s.counts) c.if-m-ne0.false c.requires c.if-s-ne-TRL.false
-    c.if-m-ne0-2.false _ c.if-m-ne0-3.true c.index-then-m-ne0-3.ensures
+    let t = c.if-not-version.true in
+    λ asked. end-version asked g.version g.m g.s.class (counts_in g.s.counts) c.requires _
+    (fault-first _ _ c.or.ensures c.unless-last.ensures) c.in_default.is c.in_default-eight.is c.in_default-nine.is t
 
-pub returns-then-version : goal.returns-then-version
-returns-then-version c =
+pub returns : goal.returns
+returns c =
     let g = c.args in
-    λ asked. end-passed asked g.version g.m g.s.class (counts_in g.s.counts) c.if-m-ne0.false c.requires c.if-s-ne-TRL.false
-    c.if-m-ne0-2.false c.if-m-ne0-3.false c.if-version.true
-
-pub returns-else-version : goal.returns-else-version
-returns-else-version c =
-    let g = c.args in
-    λ asked. end-version asked g.version g.m g.s.class (counts_in g.s.counts) c.if-m-ne0.false c.requires c.if-s-ne-TRL.false
-    c.if-m-ne0-2.false c.if-m-ne0-3.false c.if-version.false
+    let t = c.if-not-version.false in
+    λ asked. end-passed asked g.version g.m g.s.class (counts_in g.s.counts) c.requires _
+    (fault-first _ _ c.or.ensures c.unless-last.ensures) c.in_default.is c.in_default-eight.is c.in_default-nine.is t

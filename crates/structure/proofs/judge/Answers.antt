@@ -1,9 +1,6 @@
 -- `structure::judge` meets its contract: the records from here on, with the faults met, decide.
-use Prim.Native.Nat.{◌-◌}
 use native.Mathlib.Omega.{arith}
-use mathlib.Core.Path.{refl, ap, ◌∙◌}
-use borrow.Author.Tests.{not-true, not-false}
-use Rattle.format.specs.Structure.{refused}
+use mathlib.Core.Path.{refl, ◌∙◌}
 use Rattle.structure.proofs.Search.{judging-end, judging-type, judging-on, is-typed}
 use Rattle.structure.proofs.judge.Goals as goal
 
@@ -17,10 +14,9 @@ pub returns-then-not-shaped : goal.returns-then-not-shaped
 returns-then-not-shaped c =
     let g = c.args in
     let l = c.loop-s in
-    ap (refused 6) c.index.ensures
-    ∙ judging-type g.file.now g.asked g.version l.s l.m _ l.invariant c.loop-s-test.true c.text_end-end.result
+    judging-type g.file.now g.asked g.version l.s l.m _ l.invariant c.loop-s-test.true c.text_end-end.result
     c.text_end-end.ensures.value _ refl c.row_of-row.result c.row_of-row.ensures c.shaped.result c.shaped.ensures
-    (not-true _ c.if-not-shaped.true-raw)
+    (c.if-not-shaped.true)
 
 pub more-m-requires : goal.more-m-requires
 more-m-requires c =
@@ -32,7 +28,7 @@ more-m-requires c =
         c.row_of-row.ensures,
         is-typed g.file.now g.asked g.version l.s l.m _ l.invariant c.loop-s-test.true
             c.text_end-end.result c.text_end-end.ensures.value _ refl c.row_of-row.result c.row_of-row.ensures c.shaped.result
-            c.shaped.ensures ∙ not-false _ c.if-not-shaped.false-raw,
+            c.shaped.ensures ∙ c.if-not-shaped.false,
       );
     }
 
@@ -50,7 +46,7 @@ loop-s-preserved c =
     let l = c.loop-s in
     judging-on g.file.now g.asked g.version l.s l.m _ l.invariant c.loop-s-test.true c.text_end-end.result
     c.text_end-end.ensures.value _ refl c.row_of-row.result c.row_of-row.ensures c.shaped.result c.shaped.ensures
-    (not-false _ c.if-not-shaped.false-raw) _ c.after_record-s.ensures _ c.more-m.ensures
+    (c.if-not-shaped.false) _ c.after_record-s.ensures _ c.more-m.ensures
 
 pub ended-requires : goal.ended-requires
 ended-requires c = c.loop-s.invariant.bounded.class

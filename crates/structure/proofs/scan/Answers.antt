@@ -1,43 +1,39 @@
 -- `structure::scan` meets its contract: the lines decide 4 and 5, and then the records.
 use native.Mathlib.Omega.{arith}
-use mathlib.Core.Path.{sym, ◌∙◌}
+use mathlib.Core.Path.{◌≡◌, refl, sym, ap, ◌∙◌}
+use Rattle.answers.specs.Numbers.{refused_of}
+use Rattle.answers.proofs.Handed.{handed-on}
+use Prim.Native.Nat.{ℕ}
 use lib.ListN.{drop}
+use Rattle.std.specs.Prelude.{Result, Ok, Err}
 use Rattle.format.specs.Lines.{lines}
 use Rattle.format.specs.Checks.{class_at}
 use Rattle.counts.specs.Counting.{counts_in}
-use Rattle.structure.proofs.Whole.{lines-fault, lines-good, lines-many, lines-few}
+use Rattle.lines.specs.Scan.{scanned}
+use Rattle.structure.proofs.Whole.{lines-fault, lines-good, lines-many, lines-few, told-err}
 use Rattle.structure.proofs.scan.Goals as goal
 
-pub lines_from-requires : goal.lines_from-requires
-lines_from-requires c =
-    let b = c.requires.0 in
-    (b.inside, omega (arith, b.few, c.index.ensures))
-
-pub judge-requires : goal.judge-requires
-judge-requires c =
-    let g = c.args in (
-      c.requires.0,
-      c.requires.1,
-      lines-good g.asked g.version (class_at g.s.class) (counts_in g.s.counts)
-          c.index.result c.index.ensures (lines (drop g.s.at g.file.now)) _
-          (sym c.lines_from.ensures ∙ c.in-Ok.is),
-    )
-
-pub returns-in-Err : goal.returns-in-Err
-returns-in-Err c =
+pub returns-in_err-n : goal.returns-in_err-n
+returns-in_err-n c =
     let g = c.args in
-    lines-fault g.asked g.version (class_at g.s.class) (counts_in g.s.counts) c.index.result c.index.ensures
-    (lines (drop g.s.at g.file.now)) _ (sym c.lines_from.ensures ∙ c.in-Err.is)
+    let e : c.map_err.result ≡ Err c.in_err-n.field-0.0 = c.in_err-n.was in
+    let (k, is, its) = told-err c.lines_from.result c.map_err.ensures.cases e in
+    handed-on _ _ c.from_residual.ensures.1
+    ∙ ap refused_of its
+    ∙ lines-fault g.asked g.version (class_at g.s.class) (counts_in g.s.counts) _ refl (lines (drop g.s.at g.file.now)) k
+    (sym c.lines_from.ensures ∙ is)
 
 pub returns-then-n-gt-MOST_RECORDS : goal.returns-then-n-gt-MOST_RECORDS
 returns-then-n-gt-MOST_RECORDS c =
     let g = c.args in
-    lines-many g.asked g.version (class_at g.s.class) (counts_in g.s.counts) c.index.result c.index.ensures
-    (lines (drop g.s.at g.file.now)) _ (sym c.lines_from.ensures ∙ c.in-Ok.is) c.if-n-gt-MOST_RECORDS.true
+    let e : c.lines_from.result ≡ Ok c.in_ok-n.n = grind arith in
+    lines-many g.asked g.version (class_at g.s.class) (counts_in g.s.counts) _ refl
+    (lines (drop g.s.at g.file.now)) _ (sym c.lines_from.ensures ∙ e) c.if-n-gt-MOST_RECORDS.true
 
-pub returns-else-n-gt-MOST_RECORDS : goal.returns-else-n-gt-MOST_RECORDS
-returns-else-n-gt-MOST_RECORDS c =
+pub returns : goal.returns
+returns c =
     let g = c.args in
-    c.judge.ensures ∙ lines-few g.asked g.version (class_at g.s.class) (counts_in g.s.counts) c.index.result
-    c.index.ensures (lines (drop g.s.at g.file.now)) _ (sym c.lines_from.ensures ∙ c.in-Ok.is)
-    c.if-n-gt-MOST_RECORDS.false
+    let e : c.lines_from.result ≡ Ok c.in_ok-n.n = grind arith in
+    c.judge.ensures
+    ∙ lines-few g.asked g.version (class_at g.s.class) (counts_in g.s.counts) _ refl (lines (drop g.s.at g.file.now)) _
+    (sym c.lines_from.ensures ∙ e) c.if-n-gt-MOST_RECORDS.false

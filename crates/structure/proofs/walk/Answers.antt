@@ -1,7 +1,5 @@
 -- `structure::walk` meets its contract: where it stands, all before was right.
-use Prim.Native.Nat.{◌-◌}
 use native.Mathlib.Omega.{arith}
-use borrow.Author.Tests.{not-false}
 use Rattle.structure.proofs.Turns.{stood-start, stood-by}
 use Rattle.structure.proofs.Rows.{row-roomy}
 use Rattle.structure.proofs.walk.Goals as goal
@@ -31,12 +29,12 @@ after_record-s-requires c =
 
 pub loop-rows-smaller : goal.loop-rows-smaller
 loop-rows-smaller c =
-    let r = c.right.ensures (not-false _ c.if-not-right.false-raw) in
+    let r = c.right.ensures c.if-not-right.false in
     omega (arith, r.fits, c.after_record-s.ensures.at)
 
 pub loop-rows-preserved : goal.loop-rows-preserved
 loop-rows-preserved c =
-    let r = c.right.ensures (not-false _ c.if-not-right.false-raw) in
+    let r = c.right.ensures c.if-not-right.false in
     stood-by c.table-rows.result c.table-rows.ensures c.hint-k.result c.hint-k.ensures _ c.args.file.now
     c.args.asked c.loop-rows.s _
     c.loop-rows.invariant r c.after_record-s.ensures
