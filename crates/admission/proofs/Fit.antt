@@ -1,14 +1,14 @@
 -- What a file that is let in is fit for. Assumes nothing.
 use Prim.Native.Nat.{ℕ, ◌≤◌}
 use native.Mathlib.Omega.{arith}
-use mathlib.Core.Path.{◌≡◌, refl, sym, ap, ◌∙◌, subst}
-use mathlib.Core.Bool.{true, false, false≢true}
+use mathlib.Core.Path.{◌≡◌, sym, ap, subst}
+use mathlib.Core.Bool.{true}
 use lib.ListN.{length}
 use Rattle.format.specs.Bytes.{Bytes}
 use Rattle.format.specs.Table.{unknown}
 use Rattle.format.specs.Cwr22.{cwr22}
 use Rattle.format.specs.Lines.{lines}
-use Rattle.format.specs.Structure.{Answer, refused, passed, most_bytes, most_records, judged, structure}
+use Rattle.format.specs.Structure.{passed, most_bytes, most_records, judged, structure}
 use Rattle.format.specs.Numbering.{records_in}
 use Rattle.format.proofs.Answers.{file-read, answer-judged}
 use Rattle.rules.specs.Tables.{Tables}
@@ -17,7 +17,6 @@ use Rattle.rules.specs.Outcome.{admission}
 use Rattle.rules.specs.WithTerritories.{admission_with}
 use Rattle.rules.proofs.Each.{records-counted, pairs-counted}
 use Rattle.rules.proofs.Outcomes.{Orderly, admitted, admitted-with}
-use Rattle.answers.specs.Numbers.{is_passed}
 use Rattle.structure.specs.Cursor.{Here}
 use Rattle.structure.proofs.Cursor.{here-start}
 
@@ -56,19 +55,7 @@ passed-with tables table t f k m n e =
     let (o, right, s) = admitted-with tables t f table k m n e in
     record { orderly = o; territories = right; passes = s; fit = passes-fit f k m n s; counted = records-counted f k m n s }
 
--- what passes has numbers
-numbers : (a : Answer) → is_passed a ≡ true → (k : ℕ) × (m : ℕ) × (n : ℕ) × (a ≡ passed k m n)
-numbers (refused n i) e = absurd (false≢true e)
-numbers (passed k m n) e = (k, m, n, refl)
-
-pub let-in : (tables : Tables) (t : ℕ) (f : Bytes) (a : Answer) → a ≡ admission tables t f → is_passed a ≡ true → Orderly tables t × Fit f
-let-in tables t f a is e =
-    let (k, m, n, p) = numbers a e in
-    let (o, s) = admitted tables t f k m n (sym is ∙ p) in
+pub let-in : (tables : Tables) (t : ℕ) (f : Bytes) {k m n : ℕ} → passed k m n ≡ admission tables t f → Orderly tables t × Fit f
+let-in tables t f {k} {m} {n} is =
+    let (o, s) = admitted tables t f k m n (sym is) in
     (o, passes-fit f k m n s)
-
-pub let-in-with : (tables : Tables) (table : Bytes) (t : ℕ) (f : Bytes) (a : Answer) → a ≡ admission_with tables table t f → is_passed a ≡ true
-    → (k : ℕ) × (m : ℕ) × (n : ℕ) × (a ≡ passed k m n) × LetInWith tables table t f k m n
-let-in-with tables table t f a is e =
-    let (k, m, n, p) = numbers a e in
-    (k, m, n, p, passed-with tables table t f k m n (sym is ∙ p))

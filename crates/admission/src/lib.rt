@@ -9,32 +9,31 @@ ghost use Rattle.rules.specs.WithTerritories.{admission_with};
 ghost use Rattle.answers.specs.Numbers.{answer_of};
 ghost use Rattle.admission.specs.Follows.{ComesFirst};
 
-use answers::Answer;
+use answers::{Answer, Refusal};
 use values::Share;
 
 // What is lent beside the file, by refusals 1 and 2.
-#[derive(Clone, Copy)]
-enum Lent {
-    Right,
-    Refused(Answer),
-}
-
-fn lent_right(languages: &[u8], societies: &[u8], categories: &[u8], tolerance: u64) -> Lent
+fn lent_right(
+    languages: &[u8],
+    societies: &[u8],
+    categories: &[u8],
+    tolerance: u64,
+) -> Result<(), Refusal>
     ensures { ComesFirst (tables_of languages.now societies.now categories.now) tolerance result }
 {
     if !Share::is_tolerance(tolerance) {
-        return Lent::Refused(Answer::Tolerance);
+        return Err(Refusal::Tolerance);
     }
     if !tables::right(languages, tables::LANGUAGE) {
-        return Lent::Refused(Answer::Table(0));
+        return Err(Refusal::Table(0));
     }
     if !tables::right(societies, tables::SOCIETY) {
-        return Lent::Refused(Answer::Table(1));
+        return Err(Refusal::Table(1));
     }
     if !tables::right(categories, tables::CATEGORY) {
-        return Lent::Refused(Answer::Table(2));
+        return Err(Refusal::Table(2));
     }
-    Lent::Right
+    Ok(())
 }
 
 // Each ground over the whole file before the next.
@@ -48,10 +47,8 @@ pub fn admit(
     ensures { answer_of result ≡ admission (tables_of languages.now societies.now categories.now)
         tolerance file.now }
 {
-    match lent_right(languages, societies, categories, tolerance) {
-        Lent::Refused(answer) => answer,
-        Lent::Right => structure::check(file),
-    }
+    lent_right(languages, societies, categories, tolerance)?;
+    structure::check(file)
 }
 
 // The same with a territory table, which is looked at before the file.
@@ -66,25 +63,20 @@ pub fn admit_with(
     ensures { answer_of result ≡ admission_with (tables_of languages.now societies.now categories.now)
         territories.now tolerance file.now }
 {
-    match lent_right(languages, societies, categories, tolerance) {
-        Lent::Refused(answer) => answer,
-        Lent::Right => {
-            if !territories::right(territories) {
-                return Answer::Territories;
-            }
-            structure::check(file)
-        }
+    lent_right(languages, societies, categories, tolerance)?;
+    if !territories::right(territories) {
+        return Err(Refusal::Territories);
     }
+    structure::check(file)
 }
 
 // 11, after all others: the buffers of a check are long enough for what passed.
 pub fn in_room(answer: Answer, verdicts: usize, findings: usize) -> Answer
     ensures { answer_of result ≡ in_room (enough verdicts findings) (answer_of answer) }
 {
-    let told = answer.told();
-    let records = told.records;
-    if told.passes & !((records <= verdicts as u64) & (records <= findings as u64 / 8)) {
-        return Answer::Short;
+    let passed = answer?;
+    if (verdicts as u64) < passed.records || findings as u64 / 8 < passed.records {
+        return Err(Refusal::Short);
     }
-    answer
+    Ok(passed)
 }

@@ -6,21 +6,25 @@ use Rattle.answers.specs.declared.Refusal.{Refusal}
 use Rattle.answers.specs.declared.Refusal.TheVariants.{Tolerance, Table, Long, Many, Line, Shape}
 use Rattle.answers.specs.declared.Refusal.TheVariants.{Place, Number, Total, Version, Short, Full, Territories, Crowded}
 
+-- the number of a refusal's ground, and its place
+abbrev pub ground_of : Refusal → ℕ × ℕ
+ground_of Tolerance = (1, 0)
+ground_of (Table i) = (2, i)
+ground_of Long = (3, 0)
+ground_of (Line i) = (4, i)
+ground_of Many = (5, most_records)
+ground_of (Shape i) = (6, i)
+ground_of (Place i) = (7, i)
+ground_of (Number i) = (8, i)
+ground_of (Total i) = (9, i)
+ground_of Version = (10, 0)
+ground_of Short = (11, 0)
+ground_of Full = (12, 0)
+ground_of Territories = (13, 0)
+ground_of (Crowded i) = (14, i)
+
 abbrev pub refused_of : Refusal → FormatAnswer
-refused_of Tolerance = refused 1 0
-refused_of (Table i) = refused 2 i
-refused_of Long = refused 3 0
-refused_of (Line i) = refused 4 i
-refused_of Many = refused 5 most_records
-refused_of (Shape i) = refused 6 i
-refused_of (Place i) = refused 7 i
-refused_of (Number i) = refused 8 i
-refused_of (Total i) = refused 9 i
-refused_of Version = refused 10 0
-refused_of Short = refused 11 0
-refused_of Full = refused 12 0
-refused_of Territories = refused 13 0
-refused_of (Crowded i) = refused 14 i
+refused_of r = refused (ground_of r).0 (ground_of r).1
 
 abbrev pub answer_of : Result Passed Refusal → FormatAnswer
 answer_of (Ok p) = passed p.groups p.transactions p.records

@@ -3,8 +3,7 @@
 #![tactic(auto)]
 
 ghost use Rattle.std.specs.Prelude.{◌≡◌, ◌≤◌};
-ghost use Rattle.format.specs.Structure.{refused};
-ghost use Rattle.answers.specs.Numbers.{answer_of, refused_of};
+ghost use Rattle.answers.specs.Numbers.{ground_of, answer_of};
 ghost use Rattle.answers.specs.Packed.{packed_of};
 
 #[derive(Clone, Copy)]
@@ -47,7 +46,8 @@ pub const MOST_RECORDS: usize = 131072;
 impl Refusal {
     // Its number and its place, 0 where it has none. Nowhere else in code is a refusal given its number.
     pub fn told(self) -> (u64, u64)
-        ensures value { refused result.0 result.1 ≡ refused_of self }
+        ensures number { result.0 ≡ (ground_of self).0 }
+        ensures place { result.1 ≡ (ground_of self).1 }
         ensures number_bound { result.0 ≤ 14 }
     {
         let (number, place) = match self {

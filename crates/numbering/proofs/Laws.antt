@@ -5,7 +5,7 @@ use mathlib.Core.Path.{◌≡◌, refl, sym, ap, ◌∙◌}
 use mathlib.Core.Bool.{true}
 use mathlib.Core.List.{List, [], ◌∷◌, ◌++◌, map, append_assoc, append-nil}
 use lib.ListN.{length, take, drop, drop_of_length-le, length-append, take-append-drop}
-use lib.Seq.{take_all, length-take-le, take-append-le, drop-append-le, take_at}
+use lib.Seq.{length-take-le, take-append-le, drop-append-le, take_at}
 use borrow.Rule.Slice.PartMut.{put_mid, same_len_mid, mid_len, Post-is, drop_put}
 use Rattle.format.specs.Bytes.{Bytes, unlines, put}
 use Rattle.format.specs.Table.{Class, start, at, width}

@@ -12,7 +12,7 @@ ghost use Rattle.counts.specs.Counting.{counts_in, CanGrow};
 ghost use Rattle.numbering.specs.Outcome.{number_answer, number_buffer};
 ghost use Rattle.numbering.specs.Fill.{Sized};
 
-use answers::Answer;
+use answers::{Answer, Refusal};
 use counts::Counts;
 use kinds::UNKNOWN;
 use structure::Stand;
@@ -56,13 +56,10 @@ pub fn number(file: &[u8], out: &mut [u8]) -> Answer
     ensures result_value { answer_of result ≡ number_answer file.now (length out.old) }
     ensures out_after { out.new ≡ number_buffer file.now out.old }
 {
-    let answer = structure::check_places(file);
-    if !answer.passes() {
-        return answer;
-    }
+    let passed = structure::check_places(file)?;
     if out.len() < file.len() {
-        return Answer::Short;
+        return Err(Refusal::Short);
     }
     fill(file, out);
-    answer
+    Ok(passed)
 }

@@ -12,8 +12,7 @@ ghost use Rattle.numbering.specs.Outcome.{number_answer, number_buffer};
 pub extern "C" fn probe_structure(file: &[u8]) -> u64
     ensures { result ≡ exact (structure cwr22 file.now) }
 {
-    let answer = structure::check(file);
-    answer.packed()
+    answers::packed(structure::check(file))
 }
 
 // The number of groups, 0 where the file was refused.
@@ -21,9 +20,7 @@ pub extern "C" fn probe_structure(file: &[u8]) -> u64
 pub extern "C" fn probe_groups(file: &[u8]) -> u64
     ensures { result ≡ (told_of (structure cwr22 file.now)).groups }
 {
-    let answer = structure::check(file);
-    let told = answer.told();
-    told.groups
+    structure::check(file).map_or(0, |passed| passed.groups)
 }
 
 // The number of transactions, 0 where the file was refused.
@@ -31,9 +28,7 @@ pub extern "C" fn probe_groups(file: &[u8]) -> u64
 pub extern "C" fn probe_transactions(file: &[u8]) -> u64
     ensures { result ≡ (told_of (structure cwr22 file.now)).transactions }
 {
-    let answer = structure::check(file);
-    let told = answer.told();
-    told.transactions
+    structure::check(file).map_or(0, |passed| passed.transactions)
 }
 
 // Numbering: the answer in one number, and the numbered file in out.
@@ -42,6 +37,5 @@ pub extern "C" fn probe_number(file: &[u8], out: &mut [u8]) -> u64
     ensures value { result ≡ exact (number_answer file.now (length out.old)) }
     ensures out_after { out.new ≡ number_buffer file.now out.old }
 {
-    let answer = numbering::number(file, out);
-    answer.packed()
+    answers::packed(numbering::number(file, out))
 }

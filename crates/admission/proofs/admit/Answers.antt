@@ -1,12 +1,13 @@
 -- `admission::admit` meets its contract. Assumes nothing.
+use mathlib.Core.Path.{◌∙◌}
 use Rattle.rules.specs.Outcome.{admission}
-use Rattle.admission.proofs.Refusals.{refused-so, rest-so}
+use Rattle.answers.proofs.Handed.{handed-on}
 use Rattle.admission.proofs.admit.Goals as goal
 
-pub returns-in-Refused : goal.returns-in-Refused
+pub returns-in_err-lent_right : goal.returns-in_err-lent_right
 unfolding admission
-returns-in-Refused c = refused-so _ _ _ c.lent_right.ensures _ _ c.in-Refused.is
+returns-in_err-lent_right c = handed-on _ _ c.from_residual.ensures.1 ∙ c.in_err-lent_right.ensures.then _
 
-pub returns-in-Right : goal.returns-in-Right
+pub returns : goal.returns
 unfolding admission
-returns-in-Right c = rest-so _ _ _ c.lent_right.ensures _ c.in-Right.is _ c.check.ensures
+returns c = c.check.ensures ∙ c.in_ok-lent_right.ensures.then _

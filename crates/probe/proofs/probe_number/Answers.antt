@@ -4,4 +4,4 @@ use Rattle.numbering.proofs.Claims.{near}
 use Rattle.probe.proofs.probe_number.Goals as goal
 
 pub returns : goal.returns
-returns c = record { value = exact-so c.packed.ensures c.number-answer.ensures.result_value (near _ _); out_after = c.number-answer.ensures.out_after }
+returns c = record { value = exact-so c.packed.ensures c.number.ensures.result_value (near _ _); out_after = c.number.ensures.out_after }

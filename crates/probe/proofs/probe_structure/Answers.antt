@@ -4,4 +4,4 @@ use Rattle.answers.proofs.Exact.{exact-so}
 use Rattle.probe.proofs.probe_structure.Goals as goal
 
 pub returns : goal.returns
-returns c = exact-so c.packed.ensures c.check-answer.ensures (nearby-22 _).0
+returns c = exact-so c.packed.ensures c.check.ensures (nearby-22 _).0
