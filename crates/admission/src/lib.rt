@@ -2,7 +2,7 @@
 #![tactic(auto)]
 
 ghost use Rattle.std.specs.Prelude.{◌≡◌};
-ghost use Rattle.rules.specs.Tables.{tables_of};
+ghost use Rattle.tables.specs.Which.{lent_in};
 ghost use Rattle.format.specs.Lent.{in_room};
 ghost use Rattle.rules.specs.Outcome.{admission, enough};
 ghost use Rattle.rules.specs.WithTerritories.{admission_with};
@@ -10,60 +10,41 @@ ghost use Rattle.answers.specs.Numbers.{answer_of};
 ghost use Rattle.admission.specs.Follows.{ComesFirst};
 
 use answers::{Answer, Refusal};
+use tables::Tables;
 use values::Share;
 
 // What is lent beside the file, by refusals 1 and 2.
-fn lent_right(
-    languages: &[u8],
-    societies: &[u8],
-    categories: &[u8],
-    tolerance: u64,
-) -> Result<(), Refusal>
-    ensures { ComesFirst (tables_of languages.now societies.now categories.now) tolerance result }
+fn lent_right(tables: Tables, tolerance: u64) -> Result<(), Refusal>
+    ensures { ComesFirst (lent_in tables.entry) tolerance result }
 {
     if !Share::is_tolerance(tolerance) {
         return Err(Refusal::Tolerance);
     }
-    if !tables::right(languages, tables::LANGUAGE) {
+    if !tables::right(tables.languages, tables::LANGUAGE) {
         return Err(Refusal::Table(0));
     }
-    if !tables::right(societies, tables::SOCIETY) {
+    if !tables::right(tables.societies, tables::SOCIETY) {
         return Err(Refusal::Table(1));
     }
-    if !tables::right(categories, tables::CATEGORY) {
+    if !tables::right(tables.categories, tables::CATEGORY) {
         return Err(Refusal::Table(2));
     }
     Ok(())
 }
 
 // Each ground over the whole file before the next.
-pub fn admit(
-    file: &[u8],
-    languages: &[u8],
-    societies: &[u8],
-    categories: &[u8],
-    tolerance: u64,
-) -> Answer
-    ensures { answer_of result ≡ admission (tables_of languages.now societies.now categories.now)
-        tolerance file.now }
+pub fn admit(file: &[u8], tables: Tables, tolerance: u64) -> Answer
+    ensures { answer_of result ≡ admission (lent_in tables.entry) tolerance file.now }
 {
-    lent_right(languages, societies, categories, tolerance)?;
+    lent_right(tables, tolerance)?;
     structure::check(file)
 }
 
 // The same with a territory table, which is looked at before the file.
-pub fn admit_with(
-    file: &[u8],
-    languages: &[u8],
-    societies: &[u8],
-    categories: &[u8],
-    territories: &[u8],
-    tolerance: u64,
-) -> Answer
-    ensures { answer_of result ≡ admission_with (tables_of languages.now societies.now categories.now)
-        territories.now tolerance file.now }
+pub fn admit_with(file: &[u8], tables: Tables, territories: &[u8], tolerance: u64) -> Answer
+    ensures { answer_of result ≡ admission_with (lent_in tables.entry) territories.now tolerance file.now }
 {
-    lent_right(languages, societies, categories, tolerance)?;
+    lent_right(tables, tolerance)?;
     if !territories::right(territories) {
         return Err(Refusal::Territories);
     }

@@ -3,14 +3,12 @@ use native.Mathlib.Omega.{arith}
 use mathlib.Core.Path.{◌≡◌, refl, sym, ap, ◌∙◌}
 use Rattle.answers.specs.Numbers.{refused_of}
 use Rattle.answers.proofs.Handed.{handed-on}
-use Prim.Native.Nat.{ℕ}
 use lib.ListN.{drop}
-use Rattle.std.specs.Prelude.{Result, Ok, Err}
+use Rattle.std.specs.Prelude.{Ok, Err}
 use Rattle.format.specs.Lines.{lines}
 use Rattle.format.specs.Checks.{class_at}
 use Rattle.counts.specs.Counting.{counts_in}
-use Rattle.lines.specs.Scan.{scanned}
-use Rattle.structure.proofs.Whole.{lines-fault, lines-good, lines-many, lines-few, told-err}
+use Rattle.structure.proofs.Whole.{lines-fault, lines-many, lines-few, told-err}
 use Rattle.structure.proofs.scan.Goals as goal
 
 pub returns-in_err-n : goal.returns-in_err-n
