@@ -33,7 +33,7 @@ impl Row {
     pub fn size(self) -> usize
         ensures { result ≡ self.length }
     {
-        self.length as usize
+        usize::from(self.length)
     }
 
     fn shape(self) -> Shape
@@ -57,7 +57,7 @@ impl Shape {
     pub fn size(self) -> usize
         ensures { result ≡ self.length }
     {
-        self.length as usize
+        usize::from(self.length)
     }
 }
 
@@ -130,7 +130,7 @@ pub fn table() -> [Row; 38]
 pub fn hint(a: u8, b: u8, c: u8) -> usize
     ensures { result < 38 }
 {
-    match text::wide(a) * 65536 + text::wide(b) * 256 + text::wide(c) {
+    match u64::from(a) * 65536 + u64::from(b) * 256 + u64::from(c) {
         0x484452 => 0, // HDR
         0x475248 => 1, // GRH
         0x475254 => 2, // GRT
@@ -203,13 +203,10 @@ fn no_row() -> Row
 fn search(rows: [Row; 38], a: u8, b: u8, c: u8) -> Row
     ensures { result ≡ first_row rows (a ∷ b ∷ c ∷ []) }
 {
-    let mut i = 0;
-    while i < 38 {
-        let row = rows[i];
+    for row in rows {
         if is_type(row, a, b, c) {
             return row;
         }
-        i += 1;
     }
     no_row()
 }
