@@ -2,11 +2,8 @@
 use Prim.Native.Nat.{ℕ, zero, suc, ◌+◌, ◌<◌}
 use native.Mathlib.Omega.{arith}
 use native.Mathlib.Numerals.{add-one}
-use mathlib.Core.Path.{◌≡◌, refl, sym, ap, ◌∙◌}
-use mathlib.Core.Bool.{true, false, false≢true, ◌&&◌}
+use mathlib.Core.Path.{◌≡◌, refl, ap, ◌∙◌}
 use mathlib.Core.List.{List, [], ◌∷◌}
-use lib.Dec.{ltb}
-use borrow.Author.Tests.{lt-ltb}
 use lib.ListN.{length, take, set, get_or}
 use Rattle.rules.specs.Sheet.{plus, plus_each}
 
@@ -44,10 +41,10 @@ module _ (ms ns now : List ℕ) (i : ℕ) (so_far : now ≡ plus_each ms (take i
       let h : i < length ms = omega (arith, ap length so_far) in
       rw (add-one i, e, so_far) (each_step ms ns i h q)
 
-  pub each_all : (ltb i (length now) && ltb i (length ns)) ≡ false → now ≡ plus_each ms ns
-  each_all e =
+  pub each_all : (i < length now → i < length ns → ⊥) → now ≡ plus_each ms ns
+  each_all end =
       so_far ∙ each-done ms ns i
       (λ p q.
       let l = each-length ms (take i ns) in
       let h : i < length now = omega (arith, ap length so_far) in
-      false≢true (sym e ∙ rw (lt-ltb i (length now) h, lt-ltb i (length ns) q)))
+      end h q)

@@ -7,5 +7,5 @@ use Rattle.sheet.proofs.Missed.of.Goals as goal
 pub returns : goal.returns
 returns c =
     let m = c.args.m in
-    let sum = to_z-of_z w64 c.difference-sum.result (record { sfits = c.difference-sum.type_inv }) ∙ c.difference-sum.ensures in
+    let sum = to_z-of_z w64 c.difference.result (record { sfits = c.difference.type_inv }) ∙ c.difference.ensures in
     λ i. record { transactions = m.transactions; shortfall = m.shortfall; excess = m.excess; sum = sum i }

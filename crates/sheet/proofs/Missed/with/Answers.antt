@@ -7,21 +7,20 @@ use mir.Syntax.{w64}
 use mir.Val.{SFits}
 use mir.ValLaws.{to_z-of_z}
 use Rattle.rules.specs.Sheet.{within}
+use Rattle.sheet.proofs.Stops.{plus-is, within-is, larger-is}
 use Rattle.sheet.proofs.Missed.with.Goals as goal
 
 pub returns : goal.returns
 returns c =
-    let fits : SFits w64 c.args.self.sum × SFits w64 c.args.m.sum =
-    (search rules, search rules) in
-    let added = c.signed_plus-sum in
-    let (a, b) = fits in
+    let (a, b) : SFits w64 c.args.self.sum × SFits w64 c.args.m.sum = (search rules, search rules) in
+    let added = c.saturating_add-2 in
     let sum =
-    to_z-of_z w64 added.result (record { sfits = added.type_inv }) ∙ added.ensures
+    to_z-of_z w64 added.result (record { sfits = added.type_inv }) ∙ added.ensures ∙ within-is _
     ∙ (λ i. within (to_z-of_z w64 c.args.self.sum a i +ℤ to_z-of_z w64 c.args.m.sum b i))
     in
     λ i. record {
-      transactions = c.plus.ensures i;
-      shortfall = c.larger.ensures i;
-      excess = c.larger-2.ensures i;
+      transactions = (c.saturating_add.ensures ∙ plus-is _ _) i;
+      shortfall = (c.max.ensures ∙ larger-is _ _) i;
+      excess = (c.max-2.ensures ∙ larger-is _ _) i;
       sum = sum i;
     }
