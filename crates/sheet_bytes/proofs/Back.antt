@@ -13,7 +13,6 @@ use Rattle.format.proofs.Decimal.{length-bytes}
 use Rattle.format.proofs.Logic.{All-take, All-drop}
 use Rattle.rules.specs.Verdicts.{joined}
 use Rattle.rules.specs.Sheet.{each, Missed, Sheet, sheet_of, missed, missed_by, all_transactions, all_findings, all_verdicts, counts_by_finding, counts_by_verdict}
-use Rattle.rules.specs.Claims.{unsigned, signed}
 use Rattle.text.specs.Words.{word_of}
 use Rattle.text.proofs.Words.{AreBytes, bytes-kept, word-of-bytes}
 use Rattle.sheet_bytes.specs.Layout.{signed_of, unsigned_of, number_at, numbers_at, missed_at, sheet_in, front_numbers, sheet_numbers}

@@ -14,7 +14,7 @@ use Rattle.rules.specs.Sheet.{each, Sheet}
 use Rattle.rules.proofs.Joined.{joined-one, joined-append, length-joined}
 use Rattle.text.specs.Words.{word_of}
 use Rattle.buffers.proofs.Splice.{splice-nil, part-splice, length-splice, splice-on}
-use Rattle.sheet_bytes.specs.Layout.{number_at, numbers_at, front_numbers, sheet_numbers, number_bytes, bytes_of_sheet, sheet_size}
+use Rattle.sheet_bytes.specs.Layout.{number_at, numbers_at, missed_numbers, front_numbers, sheet_numbers, number_bytes, bytes_of_sheet, sheet_size}
 use Rattle.sheet_bytes.specs.Put.{numbers_put}
 
 -- ---- read
@@ -32,9 +32,6 @@ each-suc (suc n) f = ap (λ (l : List ℕ). f 0 ∷ l) (each-suc n (λ k. f (suc
 module _ (bytes : Bytes) (k i : ℕ) (numbers : List ℕ) (so_far : take i numbers ≡ numbers_at bytes k i) where
   pub load-on : i < length numbers → (n : ℕ) → n ≡ number_at bytes (k + i) → take (i + 1) (set numbers i n) ≡ numbers_at bytes k (i + 1)
   load-on h n e = rw (add-one i, take-suc-set numbers i n h, so_far, e, each-suc i (λ j. number_at bytes (k + j)))
-
-  pub load-end : length numbers ≡ i → numbers ≡ numbers_at bytes k i
-  load-end h = sym (take_all i numbers (omega arith)) ∙ so_far
 
 -- ---- put
 
@@ -95,11 +92,20 @@ module _ (s : Sheet) (findings : length s.findings ≡ 64) (verdicts : length s.
   unfolding sheet_numbers
   sheet-long = omega (arith, length-append s.findings s.verdicts)
 
-  pub sheet-put : (b b₁ b₂ b₃ : Bytes) → sheet_size ≤ length b → b₁ ≡ numbers_put 0 (front_numbers s) b → b₂ ≡ numbers_put 14 s.findings b₁
-      → b₃ ≡ numbers_put 78 s.verdicts b₂ → b₃ ≡ bytes_of_sheet s ++ drop sheet_size b
+  -- after each of the parts
+  pub sheet-put : (b b₁ b₂ b₃ b₄ b₅ b₆ : Bytes) → sheet_size ≤ length b → b₁ ≡ numbers_put 0 (s.files ∷ s.refused ∷ []) b
+      → b₂ ≡ numbers_put 2 (missed_numbers s.pr) b₁ → b₃ ≡ numbers_put 6 (missed_numbers s.mr) b₂
+      → b₄ ≡ numbers_put 10 (missed_numbers s.sr) b₃ → b₅ ≡ numbers_put 14 s.findings b₄ → b₆ ≡ numbers_put 78 s.verdicts b₅
+      → b₆ ≡ bytes_of_sheet s ++ drop sheet_size b
   unfolding bytes_of_sheet sheet_numbers
-  sheet-put b b₁ b₂ b₃ room e₁ e₂ e₃ =
-      let two = put_on 0 (front_numbers s) b b₁ e₁ (omega arith) 14 s.findings b₂ refl e₂ in
-      let all = put_on 0 (front_numbers s ++ s.findings) b b₂ two (omega arith) 78 s.verdicts b₃ (omega arith) e₃ in
+  sheet-put b b₁ b₂ b₃ b₄ b₅ b₆ room e₁ e₂ e₃ e₄ e₅ e₆ =
+      let ns₁ : List ℕ = s.files ∷ s.refused ∷ [] in
+      let ns₂ : List ℕ = ns₁ ++ missed_numbers s.pr in
+      let ns₃ : List ℕ = ns₂ ++ missed_numbers s.mr in
+      let two = put_on 0 ns₁ b b₁ e₁ (omega arith) 2 (missed_numbers s.pr) b₂ refl e₂ in
+      let three = put_on 0 ns₂ b b₂ two (omega arith) 6 (missed_numbers s.mr) b₃ refl e₃ in
+      let four = put_on 0 ns₃ b b₃ three (omega arith) 10 (missed_numbers s.sr) b₄ refl e₄ in
+      let five = put_on 0 (front_numbers s) b b₄ four (omega arith) 14 s.findings b₅ refl e₅ in
+      let all = put_on 0 (front_numbers s ++ s.findings) b b₅ five (omega arith) 78 s.verdicts b₆ (omega arith) e₆ in
       all ∙ front-splice (bytes_of_sheet s) b
       ∙ ap (λ (n : ℕ). bytes_of_sheet s ++ drop n b) (length-numbers (sheet_numbers s) ∙ ap (λ (n : ℕ). 8 * n) sheet-long)

@@ -3,35 +3,13 @@
 
 ghost use Rattle.std.specs.Prelude.{◌≡◌, [], ◌∷◌, ◌++◌, ◌≤◌, length, drop};
 ghost use Rattle.sheet.specs.Told.{told_missed, told_of};
-ghost use Rattle.sheet_bytes.specs.Layout.{sheet_size, signed_of, unsigned_of, number_at, numbers_at, missed_at, sheet_in, bytes_of_sheet};
+ghost use Rattle.sheet_bytes.specs.Layout.{sheet_size, number_at, numbers_at, missed_at, missed_numbers, sheet_in, bytes_of_sheet};
 ghost use Rattle.sheet_bytes.specs.Put.{Roomy, numbers_put};
 
 use sheet::{Missed, Sheet};
 
 // How many bytes a sheet has.
 pub const SHEET: usize = 664;
-
-// ---- two's complement
-
-const MOST: u64 = 18446744073709551615;
-
-fn signed(n: u64) -> i64
-    ensures { result ≡ signed_of n }
-{
-    if n < 9223372036854775808 {
-        return n as i64;
-    }
-    -1 - (MOST - n) as i64
-}
-
-fn unsigned(z: i64) -> u64
-    ensures { result ≡ unsigned_of z }
-{
-    if z < 0 {
-        return MOST - (-1 - z) as u64;
-    }
-    z as u64
-}
 
 // ---- read
 
@@ -40,8 +18,7 @@ fn number_at(bytes: &[u8], k: usize) -> u64
     ensures { result ≡ number_at bytes.now k }
 {
     let start = 8 * k;
-    let end = start + 8;
-    text::load_eight(&bytes[start..end])
+    text::load_eight(&bytes[start..start + 8])
 }
 
 // One number after the other, from number k on.
@@ -49,10 +26,8 @@ fn load(bytes: &[u8], k: usize, numbers: &mut [u64])
     requires { Roomy k (length numbers.old) bytes.now }
     ensures { numbers.new ≡ numbers_at bytes.now k (length numbers.old) }
 {
-    let mut i = 0;
-    while i < numbers.len() {
-        numbers[i] = number_at(bytes, k + i);
-        i += 1;
+    for (i, n) in numbers.iter_mut().enumerate() {
+        *n = number_at(bytes, k + i);
     }
 }
 
@@ -60,12 +35,11 @@ fn missed_at(bytes: &[u8], k: usize) -> Missed
     requires { Roomy k 4 bytes.now }
     ensures { told_missed result ≡ missed_at bytes.now k }
 {
-    let sum = signed(number_at(bytes, k + 3));
     Missed {
         transactions: number_at(bytes, k),
         shortfall: number_at(bytes, k + 1),
         excess: number_at(bytes, k + 2),
-        sum: sum,
+        sum: number_at(bytes, k + 3).cast_signed(),
     }
 }
 
@@ -83,8 +57,8 @@ pub fn read(bytes: &[u8]) -> Sheet
         pr: missed_at(bytes, 2),
         mr: missed_at(bytes, 6),
         sr: missed_at(bytes, 10),
-        findings: findings,
-        verdicts: verdicts,
+        findings,
+        verdicts,
     }
 }
 
@@ -95,19 +69,22 @@ fn put_number(n: u64, k: usize, bytes: &mut [u8])
     ensures { bytes.new ≡ numbers_put k (n ∷ []) bytes.old }
 {
     let start = 8 * k;
-    let end = start + 8;
-    text::store_eight(n, &mut bytes[start..end]);
+    text::store_eight(n, &mut bytes[start..start + 8]);
 }
 
 fn store(numbers: &[u64], k: usize, bytes: &mut [u8])
     requires { Roomy k (length numbers.now) bytes.old }
     ensures { bytes.new ≡ numbers_put k numbers.now bytes.old }
 {
-    let mut i = 0;
-    while i < numbers.len() {
-        put_number(numbers[i], k + i, bytes);
-        i += 1;
+    for (i, n) in numbers.iter().enumerate() {
+        put_number(*n, k + i, bytes);
     }
+}
+
+fn missed_numbers(m: Missed) -> [u64; 4]
+    ensures { result ≡ missed_numbers (told_missed m) }
+{
+    [m.transactions, m.shortfall, m.excess, m.sum.cast_unsigned()]
 }
 
 // What stands beyond the sheet stays.
@@ -115,31 +92,10 @@ pub fn put(s: Sheet, bytes: &mut [u8])
     requires { sheet_size ≤ length bytes.old }
     ensures { bytes.new ≡ bytes_of_sheet (told_of s) ++ drop sheet_size bytes.old }
 {
-    let pr = s.pr;
-    let mr = s.mr;
-    let sr = s.sr;
-    let pr_sum = pr.sum;
-    let mr_sum = mr.sum;
-    let sr_sum = sr.sum;
-    let front = [
-        s.files,
-        s.refused,
-        pr.transactions,
-        pr.shortfall,
-        pr.excess,
-        unsigned(pr_sum),
-        mr.transactions,
-        mr.shortfall,
-        mr.excess,
-        unsigned(mr_sum),
-        sr.transactions,
-        sr.shortfall,
-        sr.excess,
-        unsigned(sr_sum),
-    ];
-    store(&front, 0, bytes);
-    let findings = s.findings;
-    store(&findings, 14, bytes);
-    let verdicts = s.verdicts;
-    store(&verdicts, 78, bytes);
+    store(&[s.files, s.refused], 0, bytes);
+    store(&missed_numbers(s.pr), 2, bytes);
+    store(&missed_numbers(s.mr), 6, bytes);
+    store(&missed_numbers(s.sr), 10, bytes);
+    store(&s.findings, 14, bytes);
+    store(&s.verdicts, 78, bytes);
 }
