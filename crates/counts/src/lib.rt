@@ -2,7 +2,8 @@
 #![tactic(auto)]
 
 ghost use Rattle.std.specs.Prelude.{◌≡◌, ◌++◌, cond, ◌+◌, ◌-◌, ◌≤◌, length, take, drop};
-ghost use Rattle.format.specs.Bytes.{same_bytes, decimal, bytes_of};
+ghost use Rattle.format.specs.Bytes.{Bytes, same_bytes, decimal, bytes_of};
+ghost use Rattle.format.proofs.Decimal.{length-decimal, length-bytes};
 ghost use Rattle.format.specs.Fields.{field_of};
 ghost use Rattle.format.specs.Table.{at, width};
 ghost use Rattle.format.specs.Checks.{none_counted, count, class_at, slot, expected};
@@ -122,8 +123,8 @@ impl Counts {
         requires { Written self }
         ensures { result ≡ word_of (decimal 8 (cond head self.in_group self.in_transaction + 1)) }
     {
-        let word = choice::number(head, self.header_word, self.record_word);
-        let count = choice::number(head, self.in_group, self.in_transaction);
+        let word = choice::pick(head, self.header_word, self.record_word);
+        let count = choice::pick(head, self.in_group, self.in_transaction);
         text::next_eight(word, count)
     }
 
@@ -186,14 +187,14 @@ impl Numbers {
         match self {
             Numbers::Nothing => true,
             Numbers::Group(g) => stands(g, record, OPENED_GROUP, GROUP_DIGITS),
-            Numbers::Prefix(m, r) => words_stand(m, r, record, PREFIX),
+            Numbers::Prefix(m, r) => pair_stands(Word(m), Word(r), record, PREFIX),
             Numbers::Closing(g, m, r) => {
                 stands(g, record, CLOSED_GROUP, GROUP_DIGITS)
-                    & words_stand(m, r, record, CLOSED_COUNTS)
+                    & pair_stands(Word(m), Word(r), record, CLOSED_COUNTS)
             },
             Numbers::Totals(g, m, r) => {
                 stands(g, record, CLOSED_GROUP, GROUP_DIGITS)
-                    & pair_stands(m, r, record, CLOSED_COUNTS)
+                    & pair_stands(Number(m), Number(r), record, CLOSED_COUNTS)
             },
         }
     }
@@ -206,14 +207,14 @@ impl Numbers {
         match self {
             Numbers::Nothing => {}
             Numbers::Group(g) => write(g, out, OPENED_GROUP, GROUP_DIGITS),
-            Numbers::Prefix(m, r) => write_words(m, r, out, PREFIX),
+            Numbers::Prefix(m, r) => write_pair(Word(m), Word(r), out, PREFIX),
             Numbers::Closing(g, m, r) => {
                 write(g, out, CLOSED_GROUP, GROUP_DIGITS);
-                write_words(m, r, out, CLOSED_COUNTS)
+                write_pair(Word(m), Word(r), out, CLOSED_COUNTS)
             }
             Numbers::Totals(g, m, r) => {
                 write(g, out, CLOSED_GROUP, GROUP_DIGITS);
-                write_pair(m, r, out, CLOSED_COUNTS)
+                write_pair(Number(m), Number(r), out, CLOSED_COUNTS)
             }
         }
     }
@@ -237,50 +238,71 @@ fn write(n: u64, out: &mut [u8], start: usize, size: usize)
     text::decimal(n, &mut out[a..e]);
 }
 
-// Transactions and records stand beside one another, in eight digits each: both compared, and both written.
-fn pair_stands(m: u64, r: u64, record: &[u8], start: usize) -> bool
+// A number of eight digits, as the number or as the word of its digits.
+trait Eight: Copy {
+    ghost shown: { Self → Bytes };
+
+    // Whether it stands in the field with this start, counted from 1.
+    fn stands(self, record: &[u8], start: usize) -> bool
+        requires { (1 ≤ start) × (start - 1 + 8 ≤ length «record».now) }
+        ensures { result ≡ same_bytes (field_of start 8 «record».now) (shown self) };
+
+    // Writes it over that field.
+    fn write(self, out: &mut [u8], start: usize)
+        requires { (1 ≤ start) × (start - 1 + 8 ≤ length out.old) }
+        ensures { out.new ≡ over start (shown self) out.old };
+
+    ghost eight: { (x : Self) → length (shown x) ≡ 8 };
+}
+
+#[derive(Clone, Copy)]
+struct Number(u64);
+
+impl Eight for Number {
+    ghost shown = { λ n. decimal 8 n.0 };
+
+    ghost eight = { λ n. length-decimal 8 n.0 };
+
+    fn stands(self, record: &[u8], start: usize) -> bool {
+        stands(self.0, record, start, DIGITS)
+    }
+
+    fn write(self, out: &mut [u8], start: usize) {
+        write(self.0, out, start, DIGITS)
+    }
+}
+
+#[derive(Clone, Copy)]
+struct Word(u64);
+
+impl Eight for Word {
+    ghost shown = { λ x. bytes_of 8 x.0 };
+
+    ghost eight = { λ x. length-bytes 8 x.0 };
+
+    fn stands(self, record: &[u8], start: usize) -> bool {
+        text::is_word(self.0, text::field(record, start, DIGITS))
+    }
+
+    fn write(self, out: &mut [u8], start: usize) {
+        let a = start - 1;
+        let e = a + DIGITS;
+        text::store_eight(self.0, &mut out[a..e]);
+    }
+}
+
+// Transactions and records stand beside one another: both compared, and both written.
+fn pair_stands<E: Eight>(m: E, r: E, record: &[u8], start: usize) -> bool
     requires { (1 ≤ start) × (start - 1 + (8 + 8) ≤ length «record».now) }
-    ensures { result ≡ same_bytes (field_of start (8 + 8) «record».now) (pair m r) }
+    ensures { result ≡ same_bytes (field_of start (8 + 8) «record».now) (E.shown m ++ E.shown r) }
 {
-    stands(m, record, start, DIGITS) & stands(r, record, start + DIGITS, DIGITS)
+    m.stands(record, start) & r.stands(record, start + DIGITS)
 }
 
-fn write_pair(m: u64, r: u64, out: &mut [u8], start: usize)
+fn write_pair<E: Eight>(m: E, r: E, out: &mut [u8], start: usize)
     requires { (1 ≤ start) × (start - 1 + (8 + 8) ≤ length out.old) }
-    ensures { out.new ≡ over start (pair m r) out.old }
+    ensures { out.new ≡ over start (E.shown m ++ E.shown r) out.old }
 {
-    write(m, out, start, DIGITS);
-    write(r, out, start + DIGITS, DIGITS);
-}
-
-// The same as words.
-fn word_stands(x: u64, record: &[u8], start: usize) -> bool
-    requires { (1 ≤ start) × (start - 1 + 8 ≤ length «record».now) }
-    ensures { result ≡ same_bytes (field_of start 8 «record».now) (bytes_of 8 x) }
-{
-    text::is_word(x, text::field(record, start, DIGITS))
-}
-
-fn words_stand(m: u64, r: u64, record: &[u8], start: usize) -> bool
-    requires { (1 ≤ start) × (start - 1 + (8 + 8) ≤ length «record».now) }
-    ensures { result ≡ same_bytes (field_of start (8 + 8) «record».now) (words m r) }
-{
-    word_stands(m, record, start) & word_stands(r, record, start + DIGITS)
-}
-
-fn write_word(x: u64, out: &mut [u8], start: usize)
-    requires { (1 ≤ start) × (start - 1 + 8 ≤ length out.old) }
-    ensures { out.new ≡ over start (bytes_of 8 x) out.old }
-{
-    let a = start - 1;
-    let e = a + DIGITS;
-    text::store_eight(x, &mut out[a..e]);
-}
-
-fn write_words(m: u64, r: u64, out: &mut [u8], start: usize)
-    requires { (1 ≤ start) × (start - 1 + (8 + 8) ≤ length out.old) }
-    ensures { out.new ≡ over start (words m r) out.old }
-{
-    write_word(m, out, start);
-    write_word(r, out, start + DIGITS);
+    m.write(out, start);
+    r.write(out, start + DIGITS);
 }

@@ -13,8 +13,8 @@ stands-requires c =
     let h = rw c.in-Group.is at c.requires in
     omega (arith, h)
 
-pub words_stand-requires : goal.words_stand-requires
-words_stand-requires c =
+pub pair_stands-requires : goal.pair_stands-requires
+pair_stands-requires c =
     let h = rw c.in-Prefix.is at c.requires in
     omega (arith, h)
 
@@ -23,8 +23,8 @@ stands-requires-in-Closing c =
     let h = rw c.in-Closing.is at c.requires in
     omega (arith, h)
 
-pub words_stand-requires-in-Closing : goal.words_stand-requires-in-Closing
-words_stand-requires-in-Closing c =
+pub pair_stands-requires-in-Closing : goal.pair_stands-requires-in-Closing
+pair_stands-requires-in-Closing c =
     let h = rw c.in-Closing.is at c.requires in
     omega (arith, h)
 
@@ -33,8 +33,8 @@ stands-requires-in-Totals c =
     let h = rw c.in-Totals.is at c.requires in
     omega (arith, h)
 
-pub pair_stands-requires : goal.pair_stands-requires
-pair_stands-requires c =
+pub pair_stands-requires-in-Totals : goal.pair_stands-requires-in-Totals
+pair_stands-requires-in-Totals c =
     let h = rw c.in-Totals.is at c.requires in
     omega (arith, h)
 
@@ -46,18 +46,21 @@ pub returns-in-Group : goal.returns-in-Group
 returns-in-Group c = rw c.in-Group.is c.stands.ensures
 
 pub returns-in-Prefix : goal.returns-in-Prefix
-returns-in-Prefix c = rw c.in-Prefix.is c.words_stand.ensures
+unfolding words
+returns-in-Prefix c = rw c.in-Prefix.is c.pair_stands.ensures
 
 pub returns-in-Closing : goal.returns-in-Closing
+unfolding words
 returns-in-Closing c =
     let h = rw c.in-Closing.is at c.requires in
     rw c.in-Closing.is
     (compared c.args.record.now 4 5 (decimal 5 c.in-Closing.g) (length-decimal 5 c.in-Closing.g) (words c.in-Closing.m c.in-Closing.r) 16 (omega arith) (omega (arith, h)) _ _
-    c.stands-in-Closing.ensures c.words_stand-in-Closing.ensures)
+    c.stands-in-Closing.ensures c.pair_stands-in-Closing.ensures)
 
 pub returns-in-Totals : goal.returns-in-Totals
+unfolding pair
 returns-in-Totals c =
     let h = rw c.in-Totals.is at c.requires in
     rw c.in-Totals.is
     (compared c.args.record.now 4 5 (decimal 5 c.in-Totals.g) (length-decimal 5 c.in-Totals.g) (pair c.in-Totals.m c.in-Totals.r) 16 (omega arith) (omega (arith, h)) _ _
-    c.stands-in-Totals.ensures c.pair_stands.ensures)
+    c.stands-in-Totals.ensures c.pair_stands-in-Totals.ensures)
