@@ -4,11 +4,13 @@ use Prim.Native.Nat.{ℕ, zero, suc, ◌+◌, ◌≤◌, ◌<◌}
 use native.Mathlib.Omega.{arith}
 use mathlib.Core.Path.{◌≡◌, refl, sym, ap, ◌∙◌}
 use mathlib.Core.Bool.{Bool, true, false, not, cond, ◌&&◌, ◌||◌, and-eq-true_iff, and-false, and_assoc, or_comm}
+use mathlib.Core.Logic.{◌⊎◌, inl, inr}
 use mathlib.Core.List.{List, [], ◌∷◌, ◌++◌}
 use lib.Dec.{ltb, eqb}
 use lib.ListN.{length, get_or, set, replicate, get_or-replicate, length-set, length-replicate}
 use lib.Seq.{get_or-set_same, get_or-set_other}
 use borrow.Author.Tests.{eqb-true, eq-eqb, lt-ltb}
+use Rattle.std.specs.Int.{from_bool}
 use Rattle.format.specs.Bytes.{Bytes}
 use Rattle.format.specs.Fields.{are_digits, number_of}
 use Rattle.rules.specs.Records.{is_type, is_publisher, only, any}
@@ -22,7 +24,8 @@ use Rattle.edits.specs.Readings.{PublisherReads}
 use Rattle.edits.specs.declared.publisher.Publisher.{Publisher}
 use Rattle.edits.specs.declared.publisher.Sequence.{Sequence}
 use Rattle.edits.proofs.Sequences.{is_number, number-here, none_here}
-use Rattle.chains.specs.Tallies.{begun_by, own_shares, TallyOf, Chains, Tallied, Small}
+use Rattle.chains.specs.declared.Chains.{Chains}
+use Rattle.chains.specs.Tallies.{begun_by, own_shares, TallyOf, Tallied, Small}
 use Rattle.chains.proofs.Growth.{chain-kept, chain_left, elsewhere, same_or_not, below_left, flag-more, many_more, joined-more, paid-more, begun_more}
 
 -- ---- one record more
@@ -65,6 +68,16 @@ module _ (p : Publisher) (r : Bytes) (reads : PublisherReads p r) where
 
   pub summed : all_shares r ≡ p.shares.pr + p.shares.mr + p.shares.sr
   summed = rw reads.shares
+
+-- no number: not two digits, or no record before it
+pub numberless : {s : Sequence} → (s ≡ Sequence.NotDigits) ⊎ (s ≡ Sequence.NoRecord) → is_number s ≡ false
+numberless (inl e) = ap is_number e
+numberless (inr e) = ap is_number e
+
+-- 1 for a flag that holds
+pub flag_number : (b : Bool) → from_bool b ≡ cond b 1 0
+flag_number true = refl
+flag_number false = refl
 
 -- as `join_chain` writes it
 abbrev pub joined_by : Chains → ℕ → Bool → Bool → Bool → ℕ → Chains
@@ -190,7 +203,7 @@ chain-fewer : (k : ℕ) (ds : List Bytes) → length (chain k ds) ≤ length ds
 unfolding chain
 chain-fewer k ds = only-fewer (in_chain k) ds
 
-pub small : (c : Chains) (ds : List Bytes) → Tallied c ds → length ds ≤ 131072 → Small c.es c.sums
+pub small : (c : Chains) (ds : List Bytes) → Tallied c ds → length ds ≤ 131072 → Small c
 small c ds t h =
     record {
       es≤ = λ k b. rw (t.es.at k b) (omega (arith, only-fewer is_e (chain k ds), chain-fewer k ds));

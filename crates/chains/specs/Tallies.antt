@@ -1,11 +1,11 @@
 -- Internal: what the tallies of the code are of a transaction's details.
-use Rattle.std.specs.Prelude.{ℕ, ◌≤◌, ◌<◌, ◌^◌, ◌≡◌, Bool, false, cond, List, [], ◌∷◌, length, get_or}
+use Rattle.std.specs.Prelude.{ℕ, ◌≤◌, ◌<◌, ◌^◌, ◌≡◌, false, cond, List, [], ◌∷◌, length, get_or}
 use Rattle.format.specs.Bytes.{Bytes}
 use Rattle.rules.specs.Records.{is_type, only, any}
 use Rattle.rules.specs.Publisher.{chain, is_e, e_spu}
 use Rattle.rules.specs.Totals.{sum_of}
 use Rattle.rules.specs.Chains.{all_shares, counts_spu, paid_e, is11, is13, is14}
-use Rattle.chains.specs.declared.Met.{Met}
+use Rattle.chains.specs.declared.Chains.{Chains}
 
 -- what a chain's first record is: 1 for SPU, 2 for OPU, 0 while it has none
 abbrev pub begun_by : List Bytes → ℕ
@@ -21,22 +21,6 @@ pub record TallyOf {A : Type 0} (l : List A) (beyond : A) (f : List Bytes → A)
   pub long : length l ≡ 100
   pub at : (k : ℕ) → k < 100 → get_or l k beyond ≡ f (chain k ds)
 
--- the five tallies of every chain, and what the chains have shown so far
-pub record Chains : Type 0 where
-  pub begun : List ℕ
-  pub es : List ℕ
-  pub own : List Bool
-  pub paid : List Bool
-  pub sums : List ℕ
-  pub many : Bool
-  pub joined : Bool
-  pub kept : Bool
-
--- as the code holds them
-abbrev pub chains_of : List ℕ → List ℕ → List Bool → List Bool → List ℕ → Met → Chains
-chains_of begun es own paid sums met =
-    record { begun = begun; es = es; own = own; paid = paid; sums = sums; many = met.many; joined = met.joined; kept = met.kept }
-
 -- the tallies and flags are those of the details ds
 pub record Tallied (c : Chains) (ds : List Bytes) : Type 0 where
   pub begun : TallyOf c.begun 0 begun_by ds
@@ -49,6 +33,6 @@ pub record Tallied (c : Chains) (ds : List Bytes) : Type 0 where
   pub kept : c.kept ≡ is14 ds
 
 -- the counts and the sums have room for one record more
-pub record Small (es sums : List ℕ) : Type 0 where
-  pub es≤ : (k : ℕ) → k < 100 → get_or es k 0 ≤ 2 ^ 31
-  pub sums≤ : (k : ℕ) → k < 100 → get_or sums k 0 ≤ 2 ^ 60
+pub record Small (c : Chains) : Type 0 where
+  pub es≤ : (k : ℕ) → k < 100 → get_or c.es k 0 ≤ 2 ^ 31
+  pub sums≤ : (k : ℕ) → k < 100 → get_or c.sums k 0 ≤ 2 ^ 60

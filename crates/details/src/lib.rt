@@ -7,11 +7,11 @@ ghost use Rattle.rules.specs.Tables.{Tables};
 ghost use Rattle.tables.specs.Index.{Indexed};
 ghost use Rattle.totals.specs.Sums.{Below};
 ghost use Rattle.edits.specs.Kinds.{Stands};
-ghost use Rattle.chains.specs.Tallies.{chains_of, Tallied, Small};
+ghost use Rattle.chains.specs.Tallies.{Tallied, Small};
 ghost use Rattle.tally.specs.Known.{Known};
 ghost use Rattle.details.specs.Stepped.{Stepped};
 
-use chains::Met;
+use chains::Chains;
 use edits::Found;
 use edits::publisher::Publisher;
 use edits::writer::Writer;
@@ -23,59 +23,37 @@ use tally::Tally;
 pub struct Step {
     pub found: Found,
     pub tally: Tally,
-    pub met: Met,
 }
 
 // One detail more.
-pub fn judge(
-    record: &[u8],
-    row: Row,
-    y: Tally,
-    met: Met,
-    slots: &tables::Slots,
-    begun: &mut [u8; 100],
-    es: &mut [u32; 100],
-    own: &mut [bool; 100],
-    paid: &mut [bool; 100],
-    sums: &mut [u64; 100],
-) -> Step
-    requires below { Below (2 ^ 60) y.totals × Small es.old sums.old }
+pub fn judge(record: &[u8], row: Row, y: Tally, slots: &tables::Slots, chains: &mut Chains) -> Step
+    requires below { Below (2 ^ 60) y.totals × Small chains.old }
     requires stands { Stands row «record».now }
-    ensures { (tables : Tables) (ds : List Bytes) → Indexed tables slots.now → Known y ds
-        → Tallied (chains_of begun.old es.old own.old paid.old sums.old met) ds
-        → Stepped tables ds «record».now result
-        × Tallied (chains_of begun.new es.new own.new paid.new sums.new result.met)
-        (ds ++ «record».now ∷ []) }
+    ensures { (tables : Tables) (ds : List Bytes) → Indexed tables slots.now → Known y ds → Tallied chains.old ds
+        → Stepped tables ds «record».now result × Tallied chains.new (ds ++ «record».now ∷ []) }
 {
     let sort = row.sort;
     if sort == PUBLISHER {
         let p = Publisher::read(record);
-        let known = chains::knows_e(p, own);
-        let last = y.last;
-        let found = edits::publisher::judge(p, record, slots, last, known);
-        let tally = y.with_publisher(row, p);
-        let more = chains::join(p, met, begun, es, own, paid, sums);
+        let known = chains.knows_e(p);
+        let found = edits::publisher::judge(p, record, slots, y.last, known);
+        chains.join(p);
         return Step {
-            found: found,
-            tally: tally,
-            met: more,
+            found,
+            tally: y.with_publisher(row, p),
         };
     }
     if sort == WRITER {
         let w = Writer::read(record);
         let found = edits::writer::judge(w, record);
-        let tally = y.with_writer(row, w);
         return Step {
-            found: found,
-            tally: tally,
-            met: met,
+            found,
+            tally: y.with_writer(row, w),
         };
     }
     let found = edits::other::judge(record, row);
-    let tally = y.with_other(row);
     Step {
-        found: found,
-        tally: tally,
-        met: met,
+        found,
+        tally: y.with_other(row),
     }
 }

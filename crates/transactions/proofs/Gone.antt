@@ -15,7 +15,8 @@ use Rattle.kinds.specs.declared.Row.{Row}
 use Rattle.kinds.specs.Rows.{row_for}
 use Rattle.structure.specs.Cursor.{Here}
 use Rattle.structure.proofs.Cursor.{three-left}
-use Rattle.chains.specs.Tallies.{Chains, Tallied, Small}
+use Rattle.chains.specs.declared.Chains.{Chains}
+use Rattle.chains.specs.Tallies.{Tallied, Small}
 use Rattle.chains.proofs.Laws.{small}
 use Rattle.totals.specs.Sums.{Below}
 use Rattle.tally.specs.Known.{Known}
@@ -112,7 +113,7 @@ module _ {f : Bytes} {m start : ℕ} {claim : List Bytes → Type 0} {c : Chains
     pub below : Below (2 ^ 60) w.tally.totals
     below = below-limits w.tally.totals ds fewer known.below
 
-    pub small-chains : Small c.es c.sums
+    pub small-chains : Small c
     small-chains = small c ds tallied fewer
 
   -- ---- the record that stands here

@@ -47,7 +47,6 @@ pub record Outset (start n : ℕ) (w : Walk) : Type 0 where
   pub at : w.at ≡ start
   pub index : w.index ≡ n
   pub known : Known w.tally []
-  pub met : w.met ≡ record { many = false; joined = false; kept = false }
 
 -- one detail on: the findings of r after the details ds, and what is known with it
 pub record Turned (tables : Tables) (ds : List Bytes) (r : Bytes) (s : Turn) : Type 0 where

@@ -14,7 +14,7 @@ ghost use Rattle.rules.specs.Values.{largest_tolerance};
 ghost use Rattle.rules.specs.Findings.{verdict, TR as Level-as-TR};
 ghost use Rattle.tables.specs.Index.{Indexed};
 ghost use Rattle.kinds.specs.Rows.{type_of, row_for};
-ghost use Rattle.chains.specs.Tallies.{chains_of, Tallied, Small};
+ghost use Rattle.chains.specs.Tallies.{Tallied, Small};
 ghost use Rattle.totals.specs.Sums.{Below};
 ghost use Rattle.tally.specs.Known.{Known};
 ghost use Rattle.headers.specs.Headed.{Linked, Headed};
@@ -23,7 +23,7 @@ ghost use Rattle.transactions.specs.Walk.{Outset, Turned};
 ghost use Rattle.transactions.specs.Walk.{rest_at, front_of, Prepared, Room, PastDetails, PastTransaction, FilledTransaction};
 ghost use Rattle.transactions.specs.Purposes.{is_write, is_count, is_search, Writes, Wrote, Tells, Told, Lent, DoneDetails};
 
-use chains::Met;
+use chains::Chains;
 use edits::Found;
 use findings::TR;
 use headers::{Head, Links};
@@ -37,7 +37,6 @@ pub struct Walk {
     pub at: usize,
     pub index: usize,
     pub tally: Tally,
-    pub met: Met,
 }
 
 impl Walk {
@@ -45,16 +44,10 @@ impl Walk {
     pub fn start(at: usize, index: usize) -> Walk
         ensures { Outset at index result }
     {
-        let tally = Tally::start();
         Walk {
-            at: at,
-            index: index,
-            tally: tally,
-            met: Met {
-                many: false,
-                joined: false,
-                kept: false,
-            },
+            at,
+            index,
+            tally: Tally::start(),
         }
     }
 }
@@ -93,51 +86,24 @@ pub fn row_at(hinted: Row, file: &[u8], at: usize) -> Row
 }
 
 // The detail before which the walk stands, and whose row this is.
-fn judge_detail(
-    file: &[u8],
-    row: Row,
-    w: Walk,
-    slots: &tables::Slots,
-    begun: &mut [u8; 100],
-    es: &mut [u32; 100],
-    own: &mut [bool; 100],
-    paid: &mut [bool; 100],
-    sums: &mut [u64; 100],
-) -> Turn
+fn judge_detail(file: &[u8], row: Row, w: Walk, slots: &tables::Slots, chains: &mut Chains) -> Turn
     requires file_len_bound { (length file.now ≤ most_bytes) × Here file.now w.at head (rest_at file.now w.at)
         × (row ≡ row_for (take 3 (drop w.at file.now))) × (row.class ≡ 3) × (w.index < most_records) }
-    requires below { Below (2 ^ 60) w.tally.totals × Small es.old sums.old }
+    requires below { Below (2 ^ 60) w.tally.totals × Small chains.old }
     ensures at_value { (result.walk.at ≡ w.at + row.length + 2) × (result.walk.index ≡ w.index + 1) }
-    ensures turned { (tables : Tables) (ds : List Bytes) → Indexed tables slots.now → Known w.tally ds
-        → Tallied (chains_of begun.old es.old own.old paid.old sums.old w.met) ds
+    ensures turned { (tables : Tables) (ds : List Bytes) → Indexed tables slots.now → Known w.tally ds → Tallied chains.old ds
         → Turned tables ds (first_record (rest_at file.now w.at)) result
-        × Tallied (chains_of begun.new es.new own.new paid.new sums.new result.walk.met)
-        (ds ++ first_record (rest_at file.now w.at) ∷ []) }
+        × Tallied chains.new (ds ++ first_record (rest_at file.now w.at) ∷ []) }
 {
     let at = w.at;
     let end = at + row.size();
-    let s = details::judge(
-        &file[at..end],
-        row,
-        w.tally,
-        w.met,
-        slots,
-        begun,
-        es,
-        own,
-        paid,
-        sums,
-    );
-    let found = s.found;
-    let tally = s.tally;
-    let met = s.met;
+    let s = details::judge(&file[at..end], row, w.tally, slots, chains);
     Turn {
-        found: found,
+        found: s.found,
         walk: Walk {
             at: end + 2,
             index: w.index + 1,
-            tally: tally,
-            met: met,
+            tally: s.tally,
         },
     }
 }
@@ -236,11 +202,7 @@ pub fn judge_details(
 {
     let searched = purpose.is_search();
     let rows = kinds::table();
-    let mut begun: [u8; 100] = [0; 100];
-    let mut es: [u32; 100] = [0; 100];
-    let mut own: [bool; 100] = [false; 100];
-    let mut paid: [bool; 100] = [false; 100];
-    let mut sums: [u64; 100] = [0; 100];
+    let mut chains = Chains::none();
     let mut w = Walk::start(start, first);
     let mut rejects = false;
     loop {
@@ -248,17 +210,14 @@ pub fn judge_details(
         let k = hint_at(file, at);
         let row = row_at(rows[k], file, at);
         if (row.class != DETAIL) | (searched & rejects) {
-            let links = links_of(w.met, &begun, &sums);
             return Details {
                 walk: w,
-                links: links,
+                links: links_of(&chains),
                 class: row.class,
-                rejects: rejects,
+                rejects,
             };
         }
-        let s = judge_detail(
-            file, row, w, slots, &mut begun, &mut es, &mut own, &mut paid, &mut sums,
-        );
+        let s = judge_detail(file, row, w, slots, &mut chains);
         let found = s.found;
         write(purpose, w.index, found, verdicts, findings);
         rejects = rejects | tell(purpose, found, carriers, levels);
@@ -267,15 +226,14 @@ pub fn judge_details(
 }
 
 // Findings 11 to 14.
-fn links_of(met: Met, begun: &[u8; 100], sums: &[u64; 100]) -> Links
-    ensures { (ds : List Bytes) (es : List ℕ) (own paid : List Bool)
-        → Tallied (chains_of begun.now es own paid sums.now met) ds → Linked result ds }
+fn links_of(chains: &Chains) -> Links
+    ensures { (ds : List Bytes) → Tallied chains.now ds → Linked result ds }
 {
     Links {
-        many: met.many,
-        shareless: chains::found_12(begun, sums),
-        joined: met.joined,
-        kept: met.kept,
+        many: chains.many,
+        shareless: chains.found_12(),
+        joined: chains.joined,
+        kept: chains.kept,
     }
 }
 

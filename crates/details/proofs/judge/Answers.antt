@@ -7,18 +7,6 @@ use Rattle.details.proofs.judge.Goals as goal
 pub read-p-requires : goal.read-p-requires
 read-p-requires c = publisher-here c.args.row c.args.record.now c.requires.stands.0.0 c.requires.stands.1 c.if-sort-eq-PUBLISHER.true
 
-pub returns-then-sort-eq-PUBLISHER : goal.returns-then-sort-eq-PUBLISHER
-returns-then-sort-eq-PUBLISHER c tables ds i k t =
-    let r = c.args.record.now in
-    let reads = c.read-p.ensures.publisher_reads in
-    let known = c.knows_e-known.ensures ds r t.own reads in (
-      record {
-        judged = c.judge-found.ensures tables ds i reads k.last known;
-        known = c.with_publisher-tally.ensures ds r k c.requires.stands.0 reads;
-      },
-      c.join-more.ensures ds r t reads,
-    )
-
 pub read-w-requires : goal.read-w-requires
 read-w-requires c = writer-here c.args.row c.args.record.now c.requires.stands.0.0 c.requires.stands.1 c.if-sort-eq-WRITER.true
 
@@ -26,7 +14,7 @@ pub returns-then-sort-eq-WRITER : goal.returns-then-sort-eq-WRITER
 returns-then-sort-eq-WRITER c tables ds i k t =
     let r = c.args.record.now in
     let reads = c.read-w.ensures.writer_reads in (
-      record { judged = c.judge-found-then-sort-eq-WRITER.ensures tables ds reads; known = c.with_writer-tally.ensures ds r k c.requires.stands.0 reads },
+      record { judged = c.judge-found-then-sort-eq-WRITER.ensures tables ds reads; known = c.with_writer.ensures ds r k c.requires.stands.0 reads },
       no-publisher _ ds r t (writer-no-publisher r reads.kind.1),
     )
 
@@ -37,6 +25,6 @@ returns c tables ds i k t =
     let own = c.requires.stands.0.0 in
     let publisher = of-no-kind row r own (sort-publisher row r own) c.if-sort-eq-PUBLISHER.false in
     let writer = of-no-kind row r own (sort-writer row r own) c.if-sort-eq-WRITER.false in (
-      record { judged = c.judge-found-2.ensures tables ds; known = c.with_other-tally.ensures ds r k c.requires.stands.0 publisher writer },
+      record { judged = c.judge-found-2.ensures tables ds; known = c.with_other.ensures ds r k c.requires.stands.0 publisher writer },
       no-publisher _ ds r t publisher,
     )

@@ -30,9 +30,6 @@ overflow_add-result c =
     let pre = c.requires.file_len_bound in
     omega (arith, end, ends pre.1 pre.2, pre.0)
 
--- UNMATCHED add-t25 : tie.Need-overflow-add-t25
--- add-t25 c = omega (arith, c.before.before.before.before.requires.0.4)
-
 pub returns : goal.returns
 returns c =
     let end : c.args.w.at + c.size.result ≡ c.args.w.at + c.args.row.length =

@@ -11,7 +11,6 @@ use Rattle.rules.specs.Tables.{Tables}
 use Rattle.tables.specs.Index.{Indexed}
 use Rattle.kinds.proofs.Laws.{hinted}
 use Rattle.structure.proofs.Rows.{in_table}
-use Rattle.chains.proofs.Laws.{begins as none_yet}
 use Rattle.transactions.specs.Walk.{rest_at, Prepared, Turned}
 use Rattle.transactions.specs.Purposes.{is_search, DoneDetails}
 use Rattle.transactions.proofs.Entries.{entry-room}
@@ -24,7 +23,7 @@ use Rattle.transactions.proofs.judge_details.Goals as goal
 -- ---- the start, and the row of the record that stands here
 pub loop-rejects-init : goal.loop-rejects-init
 loop-rejects-init c =
-    begins (record { here = c.requires.file_len_bound.1; left = refl }) c.start-w.ensures (rw c.start-w.ensures.met none_yet)
+    begins (record { here = c.requires.file_len_bound.1; left = refl }) c.start-w.ensures c.none-chains.ensures
     (λ tables e. rw c.start-w.ensures.index (done_none c.args.purpose tables c.requires.file_len_bound.3 (omega arith)))
 
 pub hint_at-k-requires : goal.hint_at-k-requires
@@ -83,7 +82,7 @@ returns-then-row-searched c =
     let searched = c.is_search-searched.ensures in
     let ended = rw searched at c.if-row-searched.true in
     let its = c.row_at-row.ensures in record {
-      past_details = λ e. past inv its (none_left _ _ ended e) c.links_of-links.result _ (c.links_of-links.ensures (ds inv) _ _ _ (tallied inv));
+      past_details = λ e. past inv its (none_left _ _ ended e) c.links_of.result _ (c.links_of.ensures (ds inv) (tallied inv));
       done_details = by_cases (is_search c.args.purpose && c.loop-rejects.rejects)
           (λ e tables indexed. rw (split-left inv) (done-early (done inv tables indexed) e _))
           (λ e. all_done inv its (none_left _ _ ended e));

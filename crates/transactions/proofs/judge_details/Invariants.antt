@@ -2,7 +2,6 @@ use Prim.Native.Nat.{◌+◌}
 use lib.ListN.{length}
 use Rattle.rules.specs.Tables.{Tables}
 use Rattle.tables.specs.Index.{Indexed}
-use Rattle.chains.specs.Tallies.{chains_of}
 use Rattle.transactions.specs.Walk.{rest_at}
 use Rattle.transactions.specs.Purposes.{DoneDetails}
 use Rattle.transactions.proofs.Gone.{Inv, ds}
@@ -13,7 +12,7 @@ invariant-loop-rejects l =
     Inv l.file (l.first + length (rest_at l.file l.start)) l.start
     (λ ds. (tables : Tables) → Indexed tables l.slots
     → DoneDetails l.purpose tables l.first l.w.index ds l.rejects l.initial.verdicts l.initial.findings l.initial.carriers l.initial.levels l.verdicts l.findings l.carriers l.levels)
-    (chains_of l.begun l.es l.own l.paid l.sums l.w.met) l.w
+    l.chains l.w
 
 abbrev pub decreases-loop-rejects : goal.decreases-loop-rejects
 decreases-loop-rejects l = length (rest_at l.file l.w.at)

@@ -2,4 +2,4 @@
 use Rattle.transactions.proofs.links_of.Goals as goal
 
 pub returns : goal.returns
-returns c ds es own paid t = record { many = t.many; shareless = c.found_12.ensures ds t.begun t.sums; joined = t.joined; kept = t.kept }
+returns c ds t = record { many = t.many; shareless = c.found_12.ensures ds t.begun t.sums; joined = t.joined; kept = t.kept }
