@@ -2,14 +2,13 @@
 // whose total is past 32 bits.
 #![tactic(auto)]
 
-ghost use Rattle.std.specs.Prelude.{◌≡◌, true, List, [], ◌∷◌, ◌++◌, ℕ, ◌+◌, ◌^◌, ◌≤◌};
+ghost use Rattle.std.specs.Prelude.{◌≡◌, true, List, [], ◌∷◌, ◌++◌, ℕ, ◌+◌, ◌^◌};
 ghost use Rattle.format.specs.Bytes.{Bytes};
-ghost use Rattle.rules.specs.Values.{largest_tolerance};
 ghost use Rattle.rules.specs.Records.{is_publisher, is_writer};
 ghost use Rattle.rules.specs.Totals.{publisher_share, writer_share, whole_total, zero_or_full, is1, is2, is3};
 ghost use Rattle.totals.specs.Sums.{rights, plus, AtMost, Sums, Below};
 
-use values::Share;
+use values::{Share, Tolerance};
 
 // Shares of the three rights, in hundredths of a percent: one record's, or a total.
 #[derive(Clone, Copy)]
@@ -30,11 +29,10 @@ impl Rights {
     pub fn none() -> Rights
         ensures { result ≡ rights (λ _. 0) }
     {
-        let zero = Share::zero();
         Rights {
-            pr: zero.counts,
-            mr: zero.counts,
-            sr: zero.counts,
+            pr: 0,
+            mr: 0,
+            sr: 0,
         }
     }
 
@@ -65,10 +63,9 @@ impl Totals {
         requires { Below (2 ^ 60) self × AtMost 99999 shares }
         ensures sums { (ds : List Bytes) (r : Bytes) → Sums self ds → is_publisher r ≡ true
             → shares ≡ rights (λ right. publisher_share right r) → Sums result (ds ++ r ∷ []) }
-        ensures by_index { (k : ℕ) → Below k self → Below (k + 99999) result }
+        ensures grown { (k : ℕ) → Below k self → Below (k + 99999) result }
     {
-        let before = self.publishers;
-        self.publishers = before.with(shares);
+        self.publishers = self.publishers.with(shares);
         self
     }
 
@@ -77,10 +74,9 @@ impl Totals {
         requires { Below (2 ^ 60) self × AtMost 99999 shares }
         ensures sums { (ds : List Bytes) (r : Bytes) → Sums self ds → is_writer r ≡ true
             → shares ≡ rights (λ right. writer_share right r) → Sums result (ds ++ r ∷ []) }
-        ensures by_index { (k : ℕ) → Below k self → Below (k + 99999) result }
+        ensures grown { (k : ℕ) → Below k self → Below (k + 99999) result }
     {
-        let before = self.writers;
-        self.writers = before.with(shares);
+        self.writers = self.writers.with(shares);
         self
     }
 
@@ -94,8 +90,7 @@ impl Totals {
     }
 
     // Finding 1: the publishers' totals are too high.
-    pub fn found_1(self, t: u64) -> bool
-        requires { t ≤ largest_tolerance }
+    pub fn found_1(self, t: Tolerance) -> bool
         ensures { (ds : List Bytes) → Sums self ds → result ≡ is1 t ds }
     {
         let total = self.publishers;
@@ -105,8 +100,7 @@ impl Totals {
     }
 
     // Finding 2: the writers' total for performing rights is more than small change and less than half, or one of theirs is too high.
-    pub fn found_2(self, t: u64) -> bool
-        requires { t ≤ largest_tolerance }
+    pub fn found_2(self, t: Tolerance) -> bool
         ensures { (ds : List Bytes) → Sums self ds → result ≡ is2 t ds }
     {
         let total = self.writers;
@@ -117,8 +111,8 @@ impl Totals {
     }
 
     // Finding 3: some right is neither without shares nor shared out in full.
-    pub fn found_3(self, t: u64) -> bool
-        requires { (t ≤ largest_tolerance) × Below (2 ^ 60) self }
+    pub fn found_3(self, t: Tolerance) -> bool
+        requires { Below (2 ^ 60) self }
         ensures { (ds : List Bytes) → Sums self ds → result ≡ is3 t ds }
     {
         let total = self.whole();
@@ -126,8 +120,7 @@ impl Totals {
     }
 }
 
-fn zero_or_full(total: u64, t: u64) -> bool
-    requires { t ≤ largest_tolerance }
+fn zero_or_full(total: u64, t: Tolerance) -> bool
     ensures { result ≡ zero_or_full t total }
 {
     (total == 0) | Share::about(total, Share::FULL, t)

@@ -73,16 +73,6 @@ pub month : (y m : ℕ) → 1 ≤ m → m ≤ 12 → by_rule y m ≡ days_in y m
 unfolding days_in
 month y m g h = rw (← twelve y, value-at (by_rule y) 1 12 (m - 1) (omega arith)) (ap (by_rule y) {x = m} {y = 1 + (m - 1)} (omega arith))
 
-module _ (y m d : ℕ) where
-  pub early : m < 1 → false ≡ is_day y m d
-  early h = sym (rw (lt-leb 1 m h) (simp and-false))
-
-  pub late : 12 < m → false ≡ is_day y m d
-  late h = sym (rw (lt-leb m 12 h) (simp and-false))
-
-  pub inside : 1 ≤ m → m ≤ 12 → (leb 1 y && leb 1 d && leb d (days_in y m)) ≡ is_day y m d
-  inside g h = sym (rw (le-leb 1 m g, le-leb m 12 h) (simp and-true))
-
 pub date-is : (l : Bytes) → length l ≡ 8
     → ((are_digits (get_or l 0 0 ∷ get_or l 1 0 ∷ [])
     && (are_digits (get_or l 2 0 ∷ get_or l 3 0 ∷ [])

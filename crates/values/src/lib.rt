@@ -2,10 +2,12 @@
 // by one, with no loop: nearly every record has shares or dates.
 #![tactic(auto)]
 
-ghost use Rattle.std.specs.Prelude.{◌≡◌, ◌&&◌, [], ◌∷◌, ◌+◌, ◌-◌, ◌≤◌, leb, length};
+ghost use Rattle.std.specs.Prelude.{◌≡◌, ◌&&◌, [], ◌∷◌, ℕ, ◌+◌, ◌-◌, ◌<◌, ◌≤◌, leb, length, MatchOption};
 ghost use Rattle.format.specs.Fields.{field_of, are_digits, number_of};
 ghost use Rattle.rules.specs.Values.{are_zeros, leap_year, days_in, is_day, is_date, is_duration, iswc_sum, is_iswc};
 ghost use Rattle.rules.specs.Values.{full_share, largest_tolerance, share_of, bad_share};
+
+use std::marker::Model;
 
 // Whether each byte is a zero, as it is in an empty field.
 pub fn zeros(field: &[u8]) -> bool
@@ -45,20 +47,14 @@ fn days_in(y: u64, m: u64) -> u64
     requires { (1 ≤ m) × (m ≤ 12) }
     ensures { result ≡ days_in y m }
 {
-    let february = choice::number(leap_year(y), 29, 28);
-    choice::number(m == 2, february, 30 + (m + m / 8) % 2)
+    let february = choice::pick(leap_year(y), 29, 28);
+    choice::pick(m == 2, february, 30 + (m + m / 8) % 2)
 }
 
 fn is_day(y: u64, m: u64, d: u64) -> bool
     ensures { result ≡ is_day y m d }
 {
-    if m < 1 {
-        return false;
-    }
-    if 12 < m {
-        return false;
-    }
-    (1 <= y) & (1 <= d) & (d <= days_in(y, m))
+    (1..=12).contains(&m) && (1 <= y) & (1 <= d) & (d <= days_in(y, m))
 }
 
 pub fn date(field: &[u8]) -> bool
@@ -124,6 +120,35 @@ pub fn iswc(field: &[u8]) -> bool
 
 // ---- a share, in hundredths of a percent
 
+// How far a total may be off: no further than the largest tolerance.
+#[derive(Clone, Copy)]
+pub struct Tolerance {
+    pub hundredths: u64,
+}
+
+impl Model for Tolerance {
+    ghost Value = { ℕ };
+
+    ghost view = { λ t. t.hundredths };
+
+    ghost invariant = { λ t. t.hundredths ≤ largest_tolerance };
+
+    ghost inverse = { λ t. record { hundredths = t } };
+}
+
+impl Tolerance {
+    // None where it is too large.
+    pub fn of(hundredths: u64) -> Option<Tolerance>
+        ensures { MatchOption result (largest_tolerance < hundredths) (λ t. t ≡ hundredths) }
+    {
+        if Share::is_tolerance(hundredths) {
+            Some(Tolerance { hundredths })
+        } else {
+            None
+        }
+    }
+}
+
 // A share field as it is read: what it counts, 0 where it isn't five digits; and whether it isn't, or is over the most that it may be.
 #[derive(Clone, Copy)]
 pub struct Share {
@@ -182,24 +207,23 @@ impl Share {
     }
 
     // The range tests of a total, which has no bound but its type's. The tolerance is on the total's side.
-    pub fn at_most(total: u64, most: u64, tolerance: u64) -> bool
-        requires { (most ≤ full_share) × (tolerance ≤ largest_tolerance) }
+    pub fn at_most(total: u64, most: u64, tolerance: Tolerance) -> bool
+        requires { most ≤ full_share }
         ensures { result ≡ leb total (most + tolerance) }
     {
-        total <= most + tolerance
+        total <= most + tolerance.hundredths
     }
 
-    pub fn at_least(total: u64, least: u64, tolerance: u64) -> bool
-        requires { tolerance ≤ least }
+    pub fn at_least(total: u64, least: u64, tolerance: Tolerance) -> bool
         ensures { result ≡ leb (least - tolerance) total }
     {
-        least - tolerance <= total
+        least.saturating_sub(tolerance.hundredths) <= total
     }
 
-    pub fn about(total: u64, share: u64, tolerance: u64) -> bool
-        requires { (share ≤ full_share) × (tolerance ≤ largest_tolerance) × (tolerance ≤ share) }
+    pub fn about(total: u64, share: u64, tolerance: Tolerance) -> bool
+        requires { share ≤ full_share }
         ensures { result ≡ (leb (share - tolerance) total && leb total (share + tolerance)) }
     {
-        (share - tolerance <= total) & (total <= share + tolerance)
+        Share::at_least(total, share, tolerance) & Share::at_most(total, share, tolerance)
     }
 }

@@ -11,7 +11,7 @@ returns c ds r k d reads =
     let w = reads.kind.1 in
     record {
       totals = c.with_writer-more.ensures.sums ds r k.totals w reads.shares;
-      below = below_on _ ds r (c.with_writer-more.ensures.by_index (99999 * length ds) k.below);
+      below = below_on _ ds r (c.with_writer-more.ensures.grown (99999 * length ds) k.below);
       order = c.with-on.ensures ds r d.0 d.1 k.order;
       marks = c.with_writer-marked.ensures ds r k.marks reads;
       last = k.last ∙ sym (last-kept ds r (writer-no-publisher r w));
