@@ -12,7 +12,7 @@ ghost use Rattle.claims.specs.Entries.{gives, over_in};
 ghost use Rattle.claims.specs.Work.{current, closed, Settled, Bounded, Placed, Counted, Underway, Summed, Held};
 
 use totals::Rights;
-use values::Share;
+use values::{Share, Tolerance};
 
 // One claim, as the caller's list holds it. A C program lends the list, so that any bytes may stand in it before.
 #[repr(C)]
@@ -132,6 +132,7 @@ fn exceeds(work: &[u64], at: usize, t: u64) -> bool
     requires { (at + 3 < length work.now) × (get_or work.now at 0 ≤ 2 ^ 32) × (get_or work.now (at + 3) 0 ≤ 2 ^ 60) × (t ≤ largest_tolerance) }
     ensures { result ≡ exceeds t full_share (get_or work.now (at + 3) 0 + get_or work.now at 0) }
 {
+    let t = Tolerance { hundredths: t };
     !Share::at_most(work[at + 3] + work[at], Share::FULL, t)
 }
 

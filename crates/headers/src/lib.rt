@@ -4,7 +4,6 @@
 ghost use Rattle.std.specs.Prelude.{◌≡◌, Bool, false, List, [], ◌∷◌, ◌++◌, ◌^◌, ◌≤◌, length, replicate};
 ghost use Rattle.format.specs.Bytes.{Bytes};
 ghost use Rattle.rules.specs.Tables.{Tables};
-ghost use Rattle.rules.specs.Values.{largest_tolerance};
 ghost use Rattle.rules.specs.Writers.{is4, is5, is6, is7, is10};
 ghost use Rattle.rules.specs.Works.{is0, is9, is15};
 ghost use Rattle.rules.specs.Findings.{set_of, worst};
@@ -19,6 +18,7 @@ use edits::header::Header;
 use edits::{Field, Found, is_code};
 use tally::Tally;
 use tally::marks::Marks;
+use values::Tolerance;
 
 // Findings 11 to 14, as the chains have them.
 #[derive(Clone, Copy)]
@@ -120,9 +120,8 @@ fn join(stray: bool, works: Found, own: Found) -> Head
 
 // What a header has, where y knows the details and links their chains, and own is what the header's own fields have. named is the type that
 // GRH names, and t the tolerance.
-pub fn judge(bytes: &[u8], named: &[u8], own: Found, y: Tally, links: Links, t: u64) -> Head
+pub fn judge(bytes: &[u8], named: &[u8], own: Found, y: Tally, links: Links, t: Tolerance) -> Head
     requires header_record { HeaderRecord bytes.now }
-    requires t_le_largest_tolerance { t ≤ largest_tolerance }
     requires below { Below (2 ^ 60) y.totals }
     ensures { (tables : Tables) (ds : List Bytes) → Known y ds → Linked links ds → Judged tables [] bytes.now own
         → Headed tables t named.now (record { header = bytes.now; details = ds }) result }

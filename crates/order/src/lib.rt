@@ -13,7 +13,7 @@ ghost use Rattle.order.specs.Walk.{reached, standing, takes};
 use kinds::Row;
 
 // The stage and the rank in it that the last record took, and whether some record could take none.
-#[derive(Clone, Copy)]
+#[derive(Clone, Copy, Default)]
 pub struct Order {
     pub stage: u8,
     pub rank: u8,
@@ -25,11 +25,7 @@ impl Order {
     pub fn outset() -> Order
         ensures { standing result ≡ reached [] }
     {
-        Order {
-            stage: 0,
-            rank: 0,
-            broken: false,
-        }
+        Order::default()
     }
 
     // After one record more, of that row. A type with no spot is one of finding 24 and is passed over.
@@ -50,9 +46,8 @@ impl Order {
             return self.moved(row.third, row.rank);
         }
         Order {
-            stage: self.stage,
-            rank: self.rank,
             broken: true,
+            ..self
         }
     }
 
@@ -78,9 +73,9 @@ impl Order {
         ensures { result ≡ record { stage = stage; rank = rank; broken = self.broken } }
     {
         Order {
-            stage: stage,
-            rank: rank,
-            broken: self.broken,
+            stage,
+            rank,
+            ..self
         }
     }
 }

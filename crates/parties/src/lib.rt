@@ -21,7 +21,7 @@ ghost use Rattle.parties.specs.Most.{most_from, Most, Begun, Added};
 use claims::Claim;
 use kinds::{DETAIL, PUBLISHER, PUBLISHERS_CLAIM, Row, WRITER, WRITERS_CLAIM};
 use totals::Rights;
-use values::Share;
+use values::{Share, Tolerance};
 
 // ---- a claim record
 
@@ -173,6 +173,7 @@ impl Largest {
         let before = self.before;
         let current = self.current;
         let total = before.with(current);
+        let t = Tolerance { hundredths: t };
         Share::at_most(total.pr, Share::FULL, t)
             & Share::at_most(total.mr, Share::FULL, t)
             & Share::at_most(total.sr, Share::FULL, t)

@@ -33,13 +33,10 @@ impl Tally {
     pub fn start() -> Tally
         ensures { Known result [] }
     {
-        let totals = Totals::zero();
-        let order = Order::outset();
-        let marks = Marks::none();
         Tally {
-            totals: totals,
-            order: order,
-            marks: marks,
+            totals: Totals::zero(),
+            order: Order::outset(),
+            marks: Marks::none(),
             last: Sequence::NoRecord,
         }
     }
@@ -49,17 +46,11 @@ impl Tally {
         requires { Below (2 ^ 60) self.totals × AtMost 99999 p.shares }
         ensures { (ds : List Bytes) (r : Bytes) → Known self ds → Detail row r → PublisherReads p r → Known result (ds ++ r ∷ []) }
     {
-        let totals = self.totals;
-        let order = self.order;
-        let marks = self.marks;
-        let more = totals.with_publisher(p.shares);
-        let on = order.with(row);
-        let last = p.sequence;
         Tally {
-            totals: more,
-            order: on,
-            marks: marks,
-            last: last,
+            totals: self.totals.with_publisher(p.shares),
+            order: self.order.with(row),
+            last: p.sequence,
+            ..self
         }
     }
 
@@ -68,18 +59,11 @@ impl Tally {
         requires { Below (2 ^ 60) self.totals × AtMost 99999 w.shares }
         ensures { (ds : List Bytes) (r : Bytes) → Known self ds → Detail row r → WriterReads w r → Known result (ds ++ r ∷ []) }
     {
-        let totals = self.totals;
-        let order = self.order;
-        let marks = self.marks;
-        let more = totals.with_writer(w.shares);
-        let on = order.with(row);
-        let marked = marks.with_writer(w);
-        let last = self.last;
         Tally {
-            totals: more,
-            order: on,
-            marks: marked,
-            last: last,
+            totals: self.totals.with_writer(w.shares),
+            order: self.order.with(row),
+            marks: self.marks.with_writer(w),
+            ..self
         }
     }
 
@@ -88,17 +72,10 @@ impl Tally {
         ensures { (ds : List Bytes) (r : Bytes) → Known self ds → Detail row r → is_publisher r ≡ false → is_writer r ≡ false
             → Known result (ds ++ r ∷ []) }
     {
-        let totals = self.totals;
-        let order = self.order;
-        let marks = self.marks;
-        let on = order.with(row);
-        let marked = marks.with_other(row);
-        let last = self.last;
         Tally {
-            totals: totals,
-            order: on,
-            marks: marked,
-            last: last,
+            order: self.order.with(row),
+            marks: self.marks.with_other(row),
+            ..self
         }
     }
 }

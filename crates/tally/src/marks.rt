@@ -10,7 +10,7 @@ ghost use Rattle.tally.specs.Marked.{Marked};
 use edits::writer::Writer;
 use kinds::{EWT, INSTRUMENT, Row, VER};
 
-#[derive(Clone, Copy)]
+#[derive(Clone, Copy, Default)]
 pub struct Marks {
     // Whether there is a writer; one that makes a work, one that changes one, one that writes text.
     pub writer: bool,
@@ -31,17 +31,7 @@ impl Marks {
     pub fn none() -> Marks
         ensures { Marked result [] }
     {
-        Marks {
-            writer: false,
-            creator: false,
-            changer: false,
-            author: false,
-            instrument: false,
-            ewt: false,
-            ewts: false,
-            ver: false,
-            vers: false,
-        }
+        Marks::default()
     }
 
     // After one writer record more.

@@ -29,6 +29,7 @@ use findings::TR;
 use headers::{Head, Links};
 use kinds::{DETAIL, Row};
 use tally::Tally;
+use values::Tolerance;
 
 // Where a walk over a transaction's details stands: at a byte of the file, before a record of that number; and what is known of the
 // details so far. The tallies of their chains are kept beside it.
@@ -256,7 +257,7 @@ pub fn judge_header(
     let end = at + kinds::HEADER_LENGTH as usize;
     let header = &file[at..end];
     let own = edits::header::judge(header, slots);
-    headers::judge(header, named, own, y, links, t)
+    headers::judge(header, named, own, y, links, Tolerance { hundredths: t })
 }
 
 // After a transaction: where the next record begins, its number and its class; whether the header has finding 0.

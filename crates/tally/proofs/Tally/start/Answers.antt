@@ -6,4 +6,4 @@ use Rattle.tally.proofs.Tally.start.Goals as goal
 pub returns : goal.returns
 unfolding last_sequence
 returns c =
-    record { totals = c.zero-totals.ensures.0; below = c.zero-totals.ensures.1; order = c.outset-order.ensures; marks = c.none-marks.ensures; last = refl }
+    record { totals = c.zero.ensures.0; below = c.zero.ensures.1; order = c.outset.ensures; marks = c.none.ensures; last = refl }

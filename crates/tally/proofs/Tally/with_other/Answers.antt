@@ -10,7 +10,7 @@ returns c ds r k d p w =
     record {
       totals = sums_kept t ds r k.totals p w;
       below = below-kept t ds r k.below;
-      order = c.with-on.ensures ds r d.0 d.1 k.order;
-      marks = c.with_other-marked.ensures ds r k.marks d.0 w;
+      order = c.with.ensures ds r d.0 d.1 k.order;
+      marks = c.with_other.ensures ds r k.marks d.0 w;
       last = k.last ∙ sym (last-kept ds r p);
     }

@@ -12,9 +12,9 @@ returns c ds r k d reads =
     let p = reads.kind.1 in
     let (i, e, v) = publisher-unmarked r p in
     record {
-      totals = c.with_publisher-more.ensures.sums ds r k.totals p reads.shares;
-      below = below_on _ ds r (c.with_publisher-more.ensures.grown (99999 * length ds) k.below);
-      order = c.with-on.ensures ds r d.0 d.1 k.order;
+      totals = c.with_publisher.ensures.sums ds r k.totals p reads.shares;
+      below = below_on _ ds r (c.with_publisher.ensures.grown (99999 * length ds) k.below);
+      order = c.with.ensures ds r d.0 d.1 k.order;
       marks = unmarked c.args.self.marks ds r k.marks (publisher-no-writer r p) i e v;
       last = reads.sequence ∙ sym (last_on ds r p);
     }

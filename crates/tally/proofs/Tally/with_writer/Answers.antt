@@ -10,9 +10,9 @@ pub returns : goal.returns
 returns c ds r k d reads =
     let w = reads.kind.1 in
     record {
-      totals = c.with_writer-more.ensures.sums ds r k.totals w reads.shares;
-      below = below_on _ ds r (c.with_writer-more.ensures.grown (99999 * length ds) k.below);
-      order = c.with-on.ensures ds r d.0 d.1 k.order;
-      marks = c.with_writer-marked.ensures ds r k.marks reads;
+      totals = c.with_writer.ensures.sums ds r k.totals w reads.shares;
+      below = below_on _ ds r (c.with_writer.ensures.grown (99999 * length ds) k.below);
+      order = c.with.ensures ds r d.0 d.1 k.order;
+      marks = c.with_writer-2.ensures ds r k.marks reads;
       last = k.last ∙ sym (last-kept ds r (writer-no-publisher r w));
     }
