@@ -44,10 +44,8 @@ pub fn all_text(part: &[u8]) -> bool
     }
     let last = part.len() - BLOCK;
     let mut good = block_text(part, last);
-    let mut i = 0;
-    while i < last {
-        good = good & block_text(part, i);
-        i += BLOCK;
+    for i in (0..last).step_by(BLOCK) {
+        good &= block_text(part, i);
     }
     good
 }
