@@ -25,6 +25,7 @@ use Rattle.structure.specs.Walk.{Bounded, Next}
 use Rattle.structure.specs.declared.Stand.{Stand}
 use Rattle.structure.proofs.Rows.{row-six}
 use Rattle.structure.proofs.Turns.{bounded-start, bounded-on}
+use Rattle.structure.proofs.Cursor.{to_end}
 use Rattle.structure.proofs.Here.{record_at, fits, here-three, long, records-here, fine-after, all_after, line-here, row-size, row-numbers, row_is}
 use Rattle.numbering.specs.Fill.{Sized}
 
@@ -102,9 +103,12 @@ pub three-bytes : {f old out : Bytes} {s : Stand} → Filling f old out s → s.
 three-bytes {f} {s = s} F here = omega (arith, here-three f s.at here F.fine F.all, fits f s.at here F.fine)
 
 module _ {f old out : Bytes} {s : Stand} (F : Filling f old out s) (here : s.at < length f)
-    {shape : Shape} (its : shape ≡ shape_of (row_for (take 3 (drop s.at f)))) where
+    {shape : Shape} (found : shape ≡ shape_of (row_for (take 3 (take (length f - s.at) (drop s.at f))))) where
   abbrev row : Row
   row = row_for (take 3 (drop s.at f))
+
+  its : shape ≡ shape_of row
+  its = found ∙ ap (λ (r : Bytes). shape_of (row_for (take 3 r))) (to_end f s.at)
 
   placed : shape.class ≡ row.class
   placed = ap (λ (x : Shape). x.class) its
@@ -112,8 +116,9 @@ module _ {f old out : Bytes} {s : Stand} (F : Filling f old out s) (here : s.at 
   pub size : shape.length ≡ text_length (drop s.at f)
   size = ap (λ (x : Shape). x.length) its ∙ row-size f s.at here F.fine F.all row refl
 
-  pub ends : s.at + shape.length + 2 ≤ length f
-  ends = rw size (fits f s.at here F.fine)
+  -- the end of its line, of whose length the code has the number n
+  pub ends : {n : ℕ} → n ≡ shape.length → s.at + n + 2 ≤ length f
+  ends e = rw (e, size) (fits f s.at here F.fine)
 
   numbers_fit : at (class_at shape.class) + width (class_at shape.class) ≤ length (record_at f s.at)
   numbers_fit = rw placed (row-numbers f s.at here F.fine F.all row refl)
@@ -158,7 +163,7 @@ module _ {f old out : Bytes} {s : Stand} (F : Filling f old out s) (here : s.at 
         → Filling f old (put_mid s.at (e - s.at) out ys) next
     filling-on g l next x =
         record {
-          bounded = bounded-on f s shape.length shape.class next F.bounded (rw placed (row-six (drop s.at f) row refl)) ends x;
+          bounded = bounded-on f s shape.length shape.class next F.bounded (rw placed (row-six (drop s.at f) row refl)) (ends refl) x;
           fine = rw (there, next_here) (fine-after f s.at here F.fine);
           all = rw (there, next_here) (all_after f s.at here F.fine F.all);
           same = length-written out ys s.at e inside fit l ∙ F.same;
@@ -173,4 +178,4 @@ module _ {f old out : Bytes} {s : Stand} (F : Filling f old out s) (here : s.at 
         inside = omega (arith, q)
 
         fit : e ≤ length out
-        fit = omega (arith, q, ends)
+        fit = omega (arith, q, ends refl)

@@ -1,11 +1,9 @@
 -- `numbering::fill` meets its contract: the buffer's front and the numbered rest are the numbered file.
-use Prim.Native.Nat.{ℕ, ◌+◌, ◌≤◌}
+use Prim.Native.Nat.{ℕ, ◌+◌}
 use native.Mathlib.Omega.{arith}
-use mathlib.Core.Path.{◌≡◌, sym, ap, ◌∙◌}
-use lib.ListN.{length, take, drop, length-drop}
+use mathlib.Core.Path.{sym, ap, ◌∙◌}
+use lib.ListN.{length-drop}
 use borrow.Rule.Slice.PartMut.{mid_len}
-use Rattle.format.specs.Bytes.{Bytes}
-use Rattle.kinds.specs.Rows.{row_for, shape_of}
 use Rattle.kinds.proofs.Laws.{hinted}
 use Rattle.structure.proofs.Rows.{in_table}
 use Rattle.structure.proofs.Cursor.{to_end}
@@ -45,82 +43,39 @@ confirmed-shape-requires c =
     }
 
 pub overflow_add-end : goal.overflow_add-end
-overflow_add-end c =
-    let its : c.confirmed-shape.result ≡ shape_of (row_for (take 3 (drop c.loop-s.s.at c.args.file.now))) =
-    c.confirmed-shape.ensures ∙ ap (λ (r : Bytes). shape_of (row_for (take 3 r))) (to_end c.args.file.now c.loop-s.s.at) in
-    let end : c.loop-s.s.at + c.size.result + 2 ≤ length c.args.file.now =
-    omega (arith, c.size.ensures, ends c.loop-s.invariant c.loop-s-test.true its) in
-    omega (arith, end)
+overflow_add-end c = omega (arith, ends c.loop-s.invariant c.loop-s-test.true c.confirmed-shape.ensures c.size.ensures)
 
 pub overflow_add-end-in-loop-s : goal.overflow_add-end-in-loop-s
-overflow_add-end-in-loop-s c =
-    let its : c.confirmed-shape.result ≡ shape_of (row_for (take 3 (drop c.loop-s.s.at c.args.file.now))) =
-    c.confirmed-shape.ensures ∙ ap (λ (r : Bytes). shape_of (row_for (take 3 r))) (to_end c.args.file.now c.loop-s.s.at) in
-    let end : c.loop-s.s.at + c.size.result + 2 ≤ length c.args.file.now =
-    omega (arith, c.size.ensures, ends c.loop-s.invariant c.loop-s-test.true its) in
-    omega (arith, end)
+overflow_add-end-in-loop-s c = omega (arith, ends c.loop-s.invariant c.loop-s-test.true c.confirmed-shape.ensures c.size.ensures)
 
 pub slice_bounds-number_line-count : goal.slice_bounds-number_line-count
-slice_bounds-number_line-count c =
-    let its : c.confirmed-shape.result ≡ shape_of (row_for (take 3 (drop c.loop-s.s.at c.args.file.now))) =
-    c.confirmed-shape.ensures ∙ ap (λ (r : Bytes). shape_of (row_for (take 3 r))) (to_end c.args.file.now c.loop-s.s.at) in
-    let end : c.loop-s.s.at + c.size.result + 2 ≤ length c.args.file.now =
-    omega (arith, c.size.ensures, ends c.loop-s.invariant c.loop-s-test.true its) in
-    omega (arith, end)
+slice_bounds-number_line-count c = omega (arith, ends c.loop-s.invariant c.loop-s-test.true c.confirmed-shape.ensures c.size.ensures)
 
 pub slice_bounds-number_line-start : goal.slice_bounds-number_line-start
-slice_bounds-number_line-start c =
-    let its : c.confirmed-shape.result ≡ shape_of (row_for (take 3 (drop c.loop-s.s.at c.args.file.now))) =
-    c.confirmed-shape.ensures ∙ ap (λ (r : Bytes). shape_of (row_for (take 3 r))) (to_end c.args.file.now c.loop-s.s.at) in
-    let end : c.loop-s.s.at + c.size.result + 2 ≤ length c.args.file.now =
-    omega (arith, c.size.ensures, ends c.loop-s.invariant c.loop-s-test.true its) in
-    omega (arith, end)
+slice_bounds-number_line-start c = omega (arith, ends c.loop-s.invariant c.loop-s-test.true c.confirmed-shape.ensures c.size.ensures)
 
 pub slice_bounds-number_line-end : goal.slice_bounds-number_line-end
-slice_bounds-number_line-end c =
-    let its : c.confirmed-shape.result ≡ shape_of (row_for (take 3 (drop c.loop-s.s.at c.args.file.now))) =
-    c.confirmed-shape.ensures ∙ ap (λ (r : Bytes). shape_of (row_for (take 3 r))) (to_end c.args.file.now c.loop-s.s.at) in
-    let end : c.loop-s.s.at + c.size.result + 2 ≤ length c.args.file.now =
-    omega (arith, c.size.ensures, ends c.loop-s.invariant c.loop-s-test.true its) in
-    omega (arith, end)
+slice_bounds-number_line-end c = omega (arith, ends c.loop-s.invariant c.loop-s-test.true c.confirmed-shape.ensures c.size.ensures)
 
 pub slice_bounds-number_line-count-in-loop-s : goal.slice_bounds-number_line-count-in-loop-s
-slice_bounds-number_line-count-in-loop-s c =
-    let its : c.confirmed-shape.result ≡ shape_of (row_for (take 3 (drop c.loop-s.s.at c.args.file.now))) =
-    c.confirmed-shape.ensures ∙ ap (λ (r : Bytes). shape_of (row_for (take 3 r))) (to_end c.args.file.now c.loop-s.s.at) in
-    let end : c.loop-s.s.at + c.size.result + 2 ≤ length c.args.file.now =
-    omega (arith, c.size.ensures, ends c.loop-s.invariant c.loop-s-test.true its) in
-    omega (arith, end)
+slice_bounds-number_line-count-in-loop-s c = omega (arith, ends c.loop-s.invariant c.loop-s-test.true c.confirmed-shape.ensures c.size.ensures)
 
 pub slice_bounds-number_line-start-in-loop-s : goal.slice_bounds-number_line-start-in-loop-s
-slice_bounds-number_line-start-in-loop-s c =
-    let its : c.confirmed-shape.result ≡ shape_of (row_for (take 3 (drop c.loop-s.s.at c.args.file.now))) =
-    c.confirmed-shape.ensures ∙ ap (λ (r : Bytes). shape_of (row_for (take 3 r))) (to_end c.args.file.now c.loop-s.s.at) in
-    let end : c.loop-s.s.at + c.size.result + 2 ≤ length c.args.file.now =
-    omega (arith, c.size.ensures, ends c.loop-s.invariant c.loop-s-test.true its) in
-    omega (arith, end)
+slice_bounds-number_line-start-in-loop-s c = omega (arith, ends c.loop-s.invariant c.loop-s-test.true c.confirmed-shape.ensures c.size.ensures)
 
 pub slice_bounds-number_line-end-in-loop-s : goal.slice_bounds-number_line-end-in-loop-s
-slice_bounds-number_line-end-in-loop-s c =
-    let its : c.confirmed-shape.result ≡ shape_of (row_for (take 3 (drop c.loop-s.s.at c.args.file.now))) =
-    c.confirmed-shape.ensures ∙ ap (λ (r : Bytes). shape_of (row_for (take 3 r))) (to_end c.args.file.now c.loop-s.s.at) in
-    let end : c.loop-s.s.at + c.size.result + 2 ≤ length c.args.file.now =
-    omega (arith, c.size.ensures, ends c.loop-s.invariant c.loop-s-test.true its) in
-    omega (arith, end, c.requires.1, c.loop-s.invariant.same)
+slice_bounds-number_line-end-in-loop-s c = omega (arith, ends c.loop-s.invariant c.loop-s-test.true c.confirmed-shape.ensures c.size.ensures, c.requires.1, c.loop-s.invariant.same)
 
 pub number_line-requires : goal.number_line-requires
 number_line-requires c =
-    let its : c.confirmed-shape.result ≡ shape_of (row_for (take 3 (drop c.loop-s.s.at c.args.file.now))) =
-    c.confirmed-shape.ensures ∙ ap (λ (r : Bytes). shape_of (row_for (take 3 r))) (to_end c.args.file.now c.loop-s.s.at) in
-    let end : c.loop-s.s.at + c.size.result + 2 ≤ length c.args.file.now =
-    omega (arith, c.size.ensures, ends c.loop-s.invariant c.loop-s-test.true its) in
+    let end = ends c.loop-s.invariant c.loop-s-test.true c.confirmed-shape.ensures c.size.ensures in
     let i = c.loop-s.s.at in
     let F = c.loop-s.invariant in
     let b = F.bounded in
     let e = i + c.size.result + 2 in
     let line = mid_len i e c.args.file.now end in
     let part = mid_len i e c.loop-s.out (omega (arith, end, c.requires.1, F.same)) in
-    let fit = room F c.loop-s-test.true its in
+    let fit = room F c.loop-s-test.true c.confirmed-shape.ensures in
     (part ∙ sym line, (b.kept, omega (arith, b.few, b.inside, c.requires.0.short)), omega (arith, line, fit, c.size.ensures))
 
 pub after_record-s-requires : goal.after_record-s-requires
@@ -129,25 +84,17 @@ after_record-s-requires c =
     (omega (arith, b.inside, c.requires.0.short), b.kept, b.few)
 
 pub loop-s-smaller : goal.loop-s-smaller
-loop-s-smaller c =
-    let its : c.confirmed-shape.result ≡ shape_of (row_for (take 3 (drop c.loop-s.s.at c.args.file.now))) =
-    c.confirmed-shape.ensures ∙ ap (λ (r : Bytes). shape_of (row_for (take 3 r))) (to_end c.args.file.now c.loop-s.s.at) in
-    let end : c.loop-s.s.at + c.size.result + 2 ≤ length c.args.file.now =
-    omega (arith, c.size.ensures, ends c.loop-s.invariant c.loop-s-test.true its) in
-    omega (arith, end, c.after_record-s.ensures.at, c.size.ensures)
+loop-s-smaller c = omega (arith, ends c.loop-s.invariant c.loop-s-test.true c.confirmed-shape.ensures c.size.ensures, c.after_record-s.ensures.at, c.size.ensures)
 
 pub loop-s-preserved : goal.loop-s-preserved
 loop-s-preserved c =
-    let its : c.confirmed-shape.result ≡ shape_of (row_for (take 3 (drop c.loop-s.s.at c.args.file.now))) =
-    c.confirmed-shape.ensures ∙ ap (λ (r : Bytes). shape_of (row_for (take 3 r))) (to_end c.args.file.now c.loop-s.s.at) in
-    let end : c.loop-s.s.at + c.size.result + 2 ≤ length c.args.file.now =
-    omega (arith, c.size.ensures, ends c.loop-s.invariant c.loop-s-test.true its) in
+    let end = ends c.loop-s.invariant c.loop-s-test.true c.confirmed-shape.ensures c.size.ensures in
     let i = c.loop-s.s.at in
     let F = c.loop-s.invariant in
     let e = i + c.size.result + 2 in
     let part = mid_len i e c.loop-s.out (omega (arith, end, c.requires.1, F.same)) in
     let here = c.loop-s-test.true in
-    filling-on F here its e (ap (λ (n : ℕ). i + n + 2) c.size.ensures) c.number_line.new.out
+    filling-on F here c.confirmed-shape.ensures e (ap (λ (n : ℕ). i + n + 2) c.size.ensures) c.number_line.new.out
     c.number_line.ensures (omega (arith, c.requires.1, F.same)) (c.number_line.auto.out ∙ part) _
     c.after_record-s.ensures
 
