@@ -99,8 +99,8 @@ filling-end {f} {old} {out} {s} F h =
     sym (take-append-drop s.at out) ∙ rw (front, F.kept, e)
 
 -- three bytes stand there, at the least
-pub three-bytes : {f old out : Bytes} {s : Stand} → Filling f old out s → s.at < length f → s.at + 3 ≤ length f
-three-bytes {f} {s = s} F here = omega (arith, here-three f s.at here F.fine F.all, fits f s.at here F.fine)
+pub three_bytes : {f old out : Bytes} {s : Stand} → Filling f old out s → s.at < length f → s.at + 3 ≤ length f
+three_bytes {f} {s = s} F here = omega (arith, here-three f s.at here F.fine F.all, fits f s.at here F.fine)
 
 module _ {f old out : Bytes} {s : Stand} (F : Filling f old out s) (here : s.at < length f)
     {shape : Shape} (found : shape ≡ shape_of (row_for (take 3 (take (length f - s.at) (drop s.at f))))) where

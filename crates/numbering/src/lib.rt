@@ -29,6 +29,7 @@ fn number_line(line: &[u8], out: &mut [u8], class: u8, counts: Counts)
 }
 
 // The file, numbered, at the front of out.
+#[tactic(auto, using(crate::proofs::Laws::three_bytes, crate::proofs::Laws::ends))]
 fn fill(file: &[u8], out: &mut [u8])
     requires { (Sized file.now) × (length file.now ≤ length out.old) }
     ensures { out.new ≡ numbered_file cwr22 file.now ++ drop (length file.now) out.old }

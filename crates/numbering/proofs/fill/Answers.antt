@@ -7,7 +7,7 @@ use borrow.Rule.Slice.PartMut.{mid_len}
 use Rattle.kinds.proofs.Laws.{hinted}
 use Rattle.structure.proofs.Rows.{in_table}
 use Rattle.structure.proofs.Cursor.{to_end}
-use Rattle.numbering.proofs.Laws.{filling-start, filling-end, filling-on, three-bytes, ends, room}
+use Rattle.numbering.proofs.Laws.{filling-start, filling-end, filling-on, three_bytes, ends, room}
 use Rattle.numbering.proofs.fill.Goals as goal
 
 pub loop-s-init : goal.loop-s-init
@@ -15,56 +15,20 @@ loop-s-init c =
     let z = c.zero-none in
     filling-start c.args.file.now c.args.out.now c.requires.0 z.result z.ensures.result_value z.ensures.can_grow.0.0 z.ensures.can_grow.1
 
-pub bounds-file-at : goal.bounds-file-at
-bounds-file-at c = omega (arith, three-bytes c.loop-s.invariant c.loop-s-test.true)
-
-pub overflow_add-at : goal.overflow_add-at
-overflow_add-at c = omega (arith, three-bytes c.loop-s.invariant c.loop-s-test.true)
-
-pub bounds-file-at-in-loop-s : goal.bounds-file-at-in-loop-s
-bounds-file-at-in-loop-s c = omega (arith, three-bytes c.loop-s.invariant c.loop-s-test.true)
-
-pub overflow_add-at-in-loop-s : goal.overflow_add-at-in-loop-s
-overflow_add-at-in-loop-s c = omega (arith, three-bytes c.loop-s.invariant c.loop-s-test.true)
-
-pub bounds-file-at-in-loop-s-2 : goal.bounds-file-at-in-loop-s-2
-bounds-file-at-in-loop-s-2 c =
-    omega (arith, three-bytes c.loop-s.invariant c.loop-s-test.true)
-
 pub confirmed-shape-requires : goal.confirmed-shape-requires
 confirmed-shape-requires c =
     let rows = c.table-rows.result in
     let file = c.args.file.now in
     let i = c.loop-s.s.at in
-    let three = three-bytes c.loop-s.invariant c.loop-s-test.true in record {
+    let three = three_bytes c.loop-s.invariant c.loop-s-test.true in record {
       in_bounds = rw (to_end file i, length-drop i file) (omega (arith, three));
       hinted_value = λ t e. hinted rows c.table-rows.ensures t c.hint-k.result
           (in_table rows c.table-rows.ensures c.hint-k.result c.hint-k.ensures) _ e;
     }
 
-pub overflow_add-end : goal.overflow_add-end
-overflow_add-end c = omega (arith, ends c.loop-s.invariant c.loop-s-test.true c.confirmed-shape.ensures c.size.ensures)
-
-pub overflow_add-end-in-loop-s : goal.overflow_add-end-in-loop-s
-overflow_add-end-in-loop-s c = omega (arith, ends c.loop-s.invariant c.loop-s-test.true c.confirmed-shape.ensures c.size.ensures)
-
-pub slice_bounds-number_line-count : goal.slice_bounds-number_line-count
-slice_bounds-number_line-count c = omega (arith, ends c.loop-s.invariant c.loop-s-test.true c.confirmed-shape.ensures c.size.ensures)
-
-pub slice_bounds-number_line-start : goal.slice_bounds-number_line-start
-slice_bounds-number_line-start c = omega (arith, ends c.loop-s.invariant c.loop-s-test.true c.confirmed-shape.ensures c.size.ensures)
-
 pub slice_bounds-number_line-end : goal.slice_bounds-number_line-end
-slice_bounds-number_line-end c = omega (arith, ends c.loop-s.invariant c.loop-s-test.true c.confirmed-shape.ensures c.size.ensures)
-
-pub slice_bounds-number_line-count-in-loop-s : goal.slice_bounds-number_line-count-in-loop-s
-slice_bounds-number_line-count-in-loop-s c = omega (arith, ends c.loop-s.invariant c.loop-s-test.true c.confirmed-shape.ensures c.size.ensures)
-
-pub slice_bounds-number_line-start-in-loop-s : goal.slice_bounds-number_line-start-in-loop-s
-slice_bounds-number_line-start-in-loop-s c = omega (arith, ends c.loop-s.invariant c.loop-s-test.true c.confirmed-shape.ensures c.size.ensures)
-
-pub slice_bounds-number_line-end-in-loop-s : goal.slice_bounds-number_line-end-in-loop-s
-slice_bounds-number_line-end-in-loop-s c = omega (arith, ends c.loop-s.invariant c.loop-s-test.true c.confirmed-shape.ensures c.size.ensures, c.requires.1, c.loop-s.invariant.same)
+slice_bounds-number_line-end c =
+    omega (arith, ends c.loop-s.invariant c.loop-s-test.true c.confirmed-shape.ensures c.size.ensures)
 
 pub number_line-requires : goal.number_line-requires
 number_line-requires c =
@@ -78,14 +42,6 @@ number_line-requires c =
     let fit = room F c.loop-s-test.true c.confirmed-shape.ensures in
     (part ∙ sym line, (b.kept, omega (arith, b.few, b.inside, c.requires.0.short)), omega (arith, line, fit, c.size.ensures))
 
-pub after_record-s-requires : goal.after_record-s-requires
-after_record-s-requires c =
-    let b = c.loop-s.invariant.bounded in
-    (omega (arith, b.inside, c.requires.0.short), b.kept, b.few)
-
-pub loop-s-smaller : goal.loop-s-smaller
-loop-s-smaller c = omega (arith, ends c.loop-s.invariant c.loop-s-test.true c.confirmed-shape.ensures c.size.ensures, c.after_record-s.ensures.at, c.size.ensures)
-
 pub loop-s-preserved : goal.loop-s-preserved
 loop-s-preserved c =
     let end = ends c.loop-s.invariant c.loop-s-test.true c.confirmed-shape.ensures c.size.ensures in
@@ -97,9 +53,6 @@ loop-s-preserved c =
     filling-on F here c.confirmed-shape.ensures e (ap (λ (n : ℕ). i + n + 2) c.size.ensures) c.number_line.new.out
     c.number_line.ensures (omega (arith, c.requires.1, F.same)) (c.number_line.auto.out ∙ part) _
     c.after_record-s.ensures
-
-pub shape_of-out : goal.shape_of-out
-shape_of-out c = c.loop-s.invariant.same
 
 pub returns : goal.returns
 returns c = filling-end c.loop-s.invariant c.loop-s-test.false
