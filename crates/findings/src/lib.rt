@@ -3,7 +3,7 @@
 #![tactic(auto)]
 
 ghost use Rattle.std.specs.Prelude.{◌≡◌, ◌+◌, ◌≤◌, false, ◌++◌, length, replicate};
-ghost use Rattle.rules.specs.Findings.{set_of, places, count_of, lowest_of, larger, worst};
+ghost use Rattle.rules.specs.Findings.{set_of, places, count_of, lowest_of, worst};
 ghost use Rattle.findings.specs.Many.{many};
 
 // The set of the findings from number `first` on, each of which holds or not.
@@ -16,13 +16,6 @@ pub fn pack(first: usize, holds: &[bool]) -> u64
         set = 2 * set + u64::from(*held);
     }
     set << first
-}
-
-// The larger of two verdicts. It only picks, so that a loop over many is compiled to a maximum of sixteen at once.
-pub fn larger(a: u8, b: u8) -> u8
-    ensures { result ≡ larger a b }
-{
-    a.max(b)
 }
 
 // The verdicts: field defaulted, record rejected, transaction rejected, group rejected.
