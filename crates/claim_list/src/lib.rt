@@ -1,7 +1,7 @@
 // A list of claims that the caller lends. Each function over it is thin: what is read of a file, and what a claim adds, is the crate `claims`.
 #![tactic(auto)]
 
-ghost use Rattle.std.specs.Prelude.{◌≡◌, true, ◌++◌, ◌≤◌, length, take, drop, replicate};
+ghost use Rattle.std.specs.Prelude.{◌≡◌, true, ◌++◌, ◌≤◌, length, drop, replicate};
 ghost use Rattle.format.specs.Structure.{most_records};
 ghost use Rattle.rules.specs.Values.{largest_tolerance};
 ghost use Rattle.rules.specs.Territories.{right_territories};
@@ -16,19 +16,7 @@ pub fn clear(claims: &mut [Claim], n: usize)
     requires { n ≤ length claims.old }
     ensures { claims.new ≡ replicate n no_claim ++ drop n claims.old }
 {
-    let none = Claim {
-        party: 0,
-        code: 0,
-        mark: 0,
-        pr: 0,
-        mr: 0,
-        sr: 0,
-    };
-    let mut i = 0;
-    while i < n {
-        claims[i] = none;
-        i += 1;
-    }
+    claims[..n].fill(Claim::default());
 }
 
 // The claims of the details from that byte on, one entry each; how many they are.
@@ -36,35 +24,35 @@ pub fn fill(file: &[u8], table: &[u8], at: usize, claims: &mut [Claim]) -> usize
     requires { Within file.now table.now at 0 × (length (entries_at file.now table.now at 0) ≤ length claims.old) }
     ensures { (result ≡ length (entries_at file.now table.now at 0)) × (claims.new ≡ entries_at file.now table.now at 0 ++ drop result claims.old) }
 {
-    let mut s = parties::next_claim(file, table, at, 0);
+    let mut here = at;
+    let mut party = 0;
     let mut n = 0;
-    while s.found {
-        claims[n] = s.claim;
+    while let Some(next) = parties::next_claim(file, table, here, party) {
+        claims[n] = next.claim;
         n += 1;
-        s = parties::next_claim(file, table, s.at, s.party);
+        here = next.at;
+        party = next.party;
     }
     n
 }
 
-// The first territory in which the first n claims come to too much, with words of zeros to count in.
-fn exceeding_in(claims: &[Claim], n: usize, table: &[u8], t: u64, work: &mut [u64]) -> usize
-    requires { (n ≤ length claims.now) × (n ≤ most_records) × (right_territories table.now ≡ true) × (t ≤ largest_tolerance) × (work.old ≡ replicate 4096 0) }
-    ensures { result ≡ over_in table.now t (take n claims.now) }
+// The first territory in which the claims come to too much, with words of zeros to count in.
+fn exceeding_in(claims: &[Claim], table: &[u8], t: u64, work: &mut [u64]) -> usize
+    requires { (length claims.now ≤ most_records) × (right_territories table.now ≡ true) × (t ≤ largest_tolerance) × (work.old ≡ replicate 4096 0) }
+    ensures { result ≡ over_in table.now t claims.now }
 {
     let mut last = 0;
-    let mut i = 0;
-    while i < n {
-        last = claims::count(last, claims[i], table, work);
-        i += 1;
+    for claim in claims {
+        last = claims::count(last, *claim, table, work);
     }
     claims::first_over(table, t, work)
 }
 
 // The same with words of its own.
-pub fn exceeding(claims: &[Claim], n: usize, table: &[u8], t: u64) -> usize
-    requires { (n ≤ length claims.now) × (n ≤ most_records) × (right_territories table.now ≡ true) × (t ≤ largest_tolerance) }
-    ensures { result ≡ over_in table.now t (take n claims.now) }
+pub fn exceeding(claims: &[Claim], table: &[u8], t: u64) -> usize
+    requires { (length claims.now ≤ most_records) × (right_territories table.now ≡ true) × (t ≤ largest_tolerance) }
+    ensures { result ≡ over_in table.now t claims.now }
 {
     let mut work = [0u64; claims::WORDS];
-    exceeding_in(claims, n, table, t, &mut work)
+    exceeding_in(claims, table, t, &mut work)
 }

@@ -9,6 +9,8 @@ use lib.Seq.{get_or-set_same, get_or-set_other}
 use Rattle.std.specs.Int.{from_bool}
 use Rattle.rules.specs.Totals.{Right, PR, MR, SR}
 use Rattle.totals.specs.declared.Rights.{Rights}
+use Rattle.claims.specs.declared.Claim.{Claim}
+use Rattle.claims.specs.Zeros.{no_claim}
 use Rattle.claims.specs.Entries.{begins, speaks}
 use Rattle.claims.specs.Work.{word_of, current, closed, of_right, Settled, Bounded, Placed}
 
@@ -21,6 +23,14 @@ cond-most false m n k g h = h
 pub one-or-none : (b : Bool) (n : ℕ) → n ≡ from_bool b → n ≡ cond b 1 0
 one-or-none true n e = e
 one-or-none false n e = e
+
+-- ---- an entry whose fields are 0
+
+pub all-zeros : (e : Claim) → (e.party ≡ 0) × ((e.code ≡ 0) × ((e.mark ≡ 0) × ((e.pr ≡ 0) × ((e.mr ≡ 0) × (e.sr ≡ 0))))) → e ≡ no_claim
+all-zeros e h =
+    let fields : record { party = e.party; code = e.code; mark = e.mark; pr = e.pr; mr = e.mr; sr = e.sr } ≡ no_claim =
+    rw (h.0, h.1.0, h.1.1.0, h.1.1.1.0, h.1.1.1.1.0, h.1.1.1.1.1) in
+    fields
 
 -- ---- one right
 

@@ -1,14 +1,12 @@
 -- Internal: the walk that looks for a transaction with too many claims, and what it answers.
-use Rattle.std.specs.Prelude.{ℕ, ◌+◌, cond, ◌||◌, eqb}
-use Rattle.std.proofs.Math.Option.{Option, none, some}
+use Rattle.std.specs.Prelude.{ℕ, ◌+◌, cond, ◌||◌, eqb, Option, None, Some}
+use Rattle.std.proofs.Math.Option.{Option as Place, none, some}
 use Rattle.kinds.specs.declared.Row.{Row}
 use Rattle.crowds.specs.declared.Walk.{Walk}
-use Rattle.crowds.specs.declared.Crowd.{Crowd}
-use Rattle.crowds.specs.declared.Crowd.TheVariants.{Nowhere, At}
 
-abbrev pub crowd_of : Crowd → Option ℕ
-crowd_of Nowhere = none
-crowd_of (At i) = some i
+abbrev pub crowd_of : Option ℕ → Place ℕ
+crowd_of None = none
+crowd_of (Some i) = some i
 
 -- the walk past one record more, of that row: a detail, which may be a claim, or one that begins a count
 unfoldable pub passed : Row → Walk → Walk

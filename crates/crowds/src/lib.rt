@@ -31,25 +31,18 @@ impl Walk {
     {
         let detail = row.class == DETAIL;
         let claim = (row.sort == PUBLISHERS_CLAIM) | (row.sort == WRITERS_CLAIM);
-        let claims = choice::index(claim, self.claims + 1, self.claims);
+        let claims = choice::pick(claim, self.claims + 1, self.claims);
         Walk {
             at: self.at + row.size() + 2,
             index: self.index + 1,
-            header: choice::index(detail, self.header, self.index),
-            claims: choice::index(detail, claims, 0),
+            header: choice::pick(detail, self.header, self.index),
+            claims: choice::pick(detail, claims, 0),
         }
     }
 }
 
-// The number of its header, counted from 0 over all records; or no transaction has too many.
-#[derive(Clone, Copy)]
-pub enum Crowd {
-    Nowhere,
-    At(usize),
-}
-
-// By a list of that many entries.
-pub fn first_crowded(file: &[u8], room: usize) -> Crowd
+// By a list of that many entries: the number of its header, counted from 0 over all records, where some transaction has too many.
+pub fn first_crowded(file: &[u8], room: usize) -> Option<usize>
     requires { (length file.now ≤ most_bytes) × Here file.now 0 unknown (rest_at file.now 0)
         × (length (rest_at file.now 0) ≤ most_records) }
     ensures { crowd_of result ≡ crowded_from room 0 (rest_at file.now 0) }
@@ -62,13 +55,12 @@ pub fn first_crowded(file: &[u8], room: usize) -> Crowd
         claims: 0,
     };
     while w.at < file.len() {
-        let at = w.at;
-        let k = transactions::hint_at(file, at);
-        let row = transactions::row_at(rows[k], file, at);
+        let k = transactions::hint_at(file, w.at);
+        let row = transactions::row_at(rows[k], file, w.at);
         w = w.past(row);
         if room < w.claims {
-            return Crowd::At(w.header);
+            return Some(w.header);
         }
     }
-    Crowd::Nowhere
+    None
 }

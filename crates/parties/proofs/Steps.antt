@@ -2,7 +2,7 @@
 use Prim.Native.Nat.{ℕ, ◌+◌, ◌≤◌, ◌<◌}
 use native.Mathlib.Omega.{arith}
 use mathlib.Core.Path.{◌≡◌, refl, sym, ap, ◌∙◌, subst}
-use mathlib.Core.Bool.{true, false, cond, ◌||◌, true≢false}
+use mathlib.Core.Bool.{true, false, cond, ◌||◌}
 use mathlib.Core.List.{List, [], ◌∷◌}
 use lib.Dec.{eqb}
 use lib.ListN.{length, take, drop}
@@ -27,7 +27,7 @@ use Rattle.claims.specs.declared.Claim.{Claim}
 use Rattle.claims.specs.Entries.{entry_of, entries_from}
 use Rattle.parties.specs.declared.Next.{Next}
 use Rattle.parties.specs.Records.{ClaimRecord}
-use Rattle.parties.specs.Ahead.{entries_at, Within, Ahead}
+use Rattle.parties.specs.Ahead.{entries_at, Within, Found}
 
 -- a claim's sort is no party's
 no-party : (sort : ℕ) → (eqb sort 10 || eqb sort 11) ≡ true → (eqb sort 2 || eqb sort 3) ≡ false
@@ -35,9 +35,9 @@ no-party sort e =
     by_cases (eqb sort 10) (λ y. rw (eqb-true sort 10 y)) (λ n. let eleven : eqb sort 11 ≡ true = rw n at e in rw (eqb-true sort 11 eleven))
 
 -- from where as much is left, the next claim is the same
-pub ahead-from : {f table : Bytes} {at party here parties : ℕ} {s : Next} → entries_at f table at party ≡ entries_at f table here parties
-    → Ahead f table here parties s → Ahead f table at party s
-ahead-from e a = record { within = a.within; none = λ n. e ∙ a.none n; some = λ y. e ∙ a.some y }
+pub found-from : {f table : Bytes} {at party here parties : ℕ} {s : Next} → entries_at f table at party ≡ entries_at f table here parties
+    → Found f table here parties s → Found f table at party s
+found-from e a = record { within = a.within; left = e ∙ a.left }
 
 module _ {f table : Bytes} {at party : ℕ} (w : Within f table at party) where
   abbrev r : Bytes
@@ -71,16 +71,11 @@ module _ {f table : Bytes} {at party : ℕ} (w : Within f table at party) where
 
     -- ---- no detail
 
-    ended : (kind.class ≡ 3 → ⊥) → entries_at f table at party ≡ []
+    pub ended : (kind.class ≡ 3 → ⊥) → entries_at f table at party ≡ []
     unfolding entries_at
     ended n =
         ap (λ (rs : List Bytes). entries_from (territories_in table) party (span (is_detail cwr22) rs)) (first-left w.here refl)
         ∙ rw (no-detail w.here its n)
-
-    pub ahead_none : (kind.class ≡ 3 → ⊥) → (s : Next) → s.found ≡ false → Ahead f table at party s
-    ahead_none n s e =
-        let never : s.found ≡ true → ⊥ = λ y. true≢false (sym y ∙ e) in
-        record { within = λ y. absurd (never y); none = λ _. ended n; some = λ y. absurd (never y) }
 
     -- ---- a detail, and the place after it
 
@@ -114,14 +109,9 @@ module _ {f table : Bytes} {at party : ℕ} (w : Within f table at party) where
             ap (entries_from (territories_in table) party) details
             ∙ rw (sym is-party ∙ no-party kind.sort e, sym is-claim ∙ e)
 
-        pub ahead-claim : (claim : Claim) → claim ≡ entry_of (territories_in table) party r
-            → Ahead f table at party (record { at = next; party = party; found = true; claim = claim })
-        ahead-claim claim c =
-            record {
-              within = λ _. within-next party (omega arith);
-              none = λ n. absurd (true≢false n);
-              some = λ _. rw c entries-claim;
-            }
+        pub found-claim : (claim : Claim) → claim ≡ entry_of (territories_in table) party r
+            → Found f table at party (record { at = next; party = party; claim = claim })
+        found-claim claim c = record { within = within-next party (omega arith); left = rw c entries-claim }
 
       abbrev rest-after : ℕ → List Claim
       rest-after n = entries_from (territories_in table) n (span (is_detail cwr22) (rest_at f next))

@@ -1,5 +1,5 @@
 -- Internal: a walk over the details of a transaction, from one claim to the next.
-use Rattle.std.specs.Prelude.{ℕ, ◌+◌, ◌≤◌, ◌≡◌, true, false, ◌||◌, List, [], ◌∷◌, eqb, length}
+use Rattle.std.specs.Prelude.{ℕ, ◌+◌, ◌≤◌, ◌≡◌, true, ◌||◌, Option, None, Some, List, [], ◌∷◌, eqb, length}
 use Rattle.format.specs.Bytes.{Bytes}
 use Rattle.format.specs.Table.{head}
 use Rattle.format.specs.Cwr22.{cwr22}
@@ -29,8 +29,12 @@ pub record Within (f table : Bytes) (at party : ℕ) : Type 0 where
 abbrev pub ClaimRow : Row → Bytes → Type 0
 ClaimRow row type = (row ≡ row_for type) × (row.class ≡ 3) × ((eqb row.sort 10 || eqb row.sort 11) ≡ true)
 
--- from there, the next claim and where the walk stands after it; or none is left
-pub record Ahead (f table : Bytes) (at party : ℕ) (s : Next) : Type 0 where
-  pub within : s.found ≡ true → Within f table s.at s.party
-  pub none : s.found ≡ false → entries_at f table at party ≡ []
-  pub some : s.found ≡ true → entries_at f table at party ≡ s.claim ∷ entries_at f table s.at s.party
+-- from there, a claim is the next, and the walk stands there after it
+pub record Found (f table : Bytes) (at party : ℕ) (s : Next) : Type 0 where
+  pub within : Within f table s.at s.party
+  pub left : entries_at f table at party ≡ s.claim ∷ entries_at f table s.at s.party
+
+-- the next claim, or none is left
+abbrev pub Ahead : (f table : Bytes) (at party : ℕ) → Option Next → Type 0
+Ahead f table at party None = entries_at f table at party ≡ []
+Ahead f table at party (Some s) = Found f table at party s

@@ -8,14 +8,13 @@ ghost use Rattle.rules.specs.Totals.{Right};
 ghost use Rattle.rules.specs.Territories.{Territory, codes_of};
 ghost use Rattle.rules.specs.Collection.{claim_field, mark as Collection·mark, claimed};
 ghost use Rattle.claims.specs.declared.Claim.{Claim};
-ghost use Rattle.claims.specs.Zeros.{no_claim};
 ghost use Rattle.claims.specs.Entries.{entry_of, share_of};
 ghost use Rattle.claims.specs.Work.{of_right};
 ghost use Rattle.territories.specs.Positions.{place_of};
 ghost use Rattle.totals.specs.Sums.{rights, AtMost};
 ghost use Rattle.rules.specs.Findings.{larger};
 ghost use Rattle.parties.specs.Records.{ClaimRecord, Reads};
-ghost use Rattle.parties.specs.Ahead.{Within, Ahead, ClaimRow};
+ghost use Rattle.parties.specs.Ahead.{Within, Found, Ahead, ClaimRow};
 ghost use Rattle.parties.specs.Most.{most_from, Most, Begun, Added};
 
 use claims::Claim;
@@ -32,7 +31,7 @@ fn field(record: &[u8], publishers: bool, on: usize, size: usize) -> &[u8]
     ensures result_value { result.now ≡ claim_field (35 + on) (29 + on) size «record».now }
     ensures result_len { length result.now ≡ size }
 {
-    text::field(record, choice::index(publishers, 35, 29) + on, size)
+    text::field(record, choice::pick(publishers, 35, 29) + on, size)
 }
 
 // The most that five digits write.
@@ -63,21 +62,8 @@ pub fn code(record: &[u8], publishers: bool) -> &[u8]
     field(record, publishers, 16, 4)
 }
 
-// The entry of a claim that is ignored.
-fn no_claim() -> Claim
-    ensures { result ≡ no_claim }
-{
-    Claim {
-        party: 0,
-        code: 0,
-        mark: 0,
-        pr: 0,
-        mr: 0,
-        sr: 0,
-    }
-}
-
-// Its entry, for that party. place is where its code stands in a table of so many territories.
+// Its entry, for that party; that of a claim which is ignored is all zeros. place is where its code stands in a table of so many
+// territories.
 pub fn entry(record: &[u8], publishers: bool, place: usize, count: usize, party: u32) -> Claim
     requires { ClaimRecord publishers «record».now × (place < 2 ^ 32) }
     ensures { (T : List Territory) → place ≡ place_of (claimed «record».now) (codes_of T) → count ≡ length T
@@ -90,15 +76,15 @@ pub fn entry(record: &[u8], publishers: bool, place: usize, count: usize, party:
     let right = (place < count) & ((b'I' == mark) | (b'E' == mark)) & !pr.bad & !mr.bad & !sr.bad;
     if right {
         Claim {
-            party: party,
+            party,
             code: place as u32,
-            mark: mark as u32,
+            mark: u32::from(mark),
             pr: pr.counts as u32,
             mr: mr.counts as u32,
             sr: sr.counts as u32,
         }
     } else {
-        no_claim()
+        Claim::default()
     }
 }
 
@@ -118,9 +104,9 @@ fn only(c: bool, shares: Rights) -> Rights
     ensures by_index { (most : ℕ) → AtMost most shares → AtMost most result }
 {
     Rights {
-        pr: choice::number(c, shares.pr, 0),
-        mr: choice::number(c, shares.mr, 0),
-        sr: choice::number(c, shares.sr, 0),
+        pr: choice::pick(c, shares.pr, 0),
+        mr: choice::pick(c, shares.mr, 0),
+        sr: choice::pick(c, shares.sr, 0),
     }
 }
 
@@ -129,9 +115,9 @@ fn larger_of(claim: Claim, shares: Rights) -> Rights
     ensures { result ≡ rights (λ right. larger (share_of right claim) (of_right shares right)) }
 {
     Rights {
-        pr: figures::larger(claim.pr as u64, shares.pr),
-        mr: figures::larger(claim.mr as u64, shares.mr),
-        sr: figures::larger(claim.sr as u64, shares.sr),
+        pr: u64::from(claim.pr).max(shares.pr),
+        mr: u64::from(claim.mr).max(shares.mr),
+        sr: u64::from(claim.sr).max(shares.sr),
     }
 }
 
@@ -156,12 +142,10 @@ impl Largest {
             return self;
         }
         let begins = claim.party != self.party;
-        let current = self.current;
-        let before = self.before;
         Largest {
             party: claim.party,
-            before: before.with(only(begins, current)),
-            current: larger_of(claim, only(!begins, current)),
+            before: self.before.with(only(begins, self.current)),
+            current: larger_of(claim, only(!begins, self.current)),
         }
     }
 
@@ -170,9 +154,7 @@ impl Largest {
         requires { (t ≤ largest_tolerance) × Added self }
         ensures { (es : List Claim) → Most es self → result ≡ true → (right : Right) → most_from right 0 0 es ≤ full_share + t }
     {
-        let before = self.before;
-        let current = self.current;
-        let total = before.with(current);
+        let total = self.before.with(self.current);
         let t = Tolerance { hundredths: t };
         Share::at_most(total.pr, Share::FULL, t)
             & Share::at_most(total.mr, Share::FULL, t)
@@ -182,13 +164,11 @@ impl Largest {
 
 // ---- from one claim to the next
 
-// The next claim; where the record after it begins, and how many parties have begun by then. Where no claim is left, found is false and the
-// rest says nothing.
+// The next claim; where the record after it begins, and how many parties have begun by then.
 #[derive(Clone, Copy)]
 pub struct Next {
     pub at: usize,
     pub party: u32,
-    pub found: bool,
     pub claim: Claim,
 }
 
@@ -197,13 +177,13 @@ fn parties_in(row: Row) -> u32
     ensures value { result ≡ cond (eqb row.sort 2 || eqb row.sort 3) 1 0 }
     ensures upper_bound { result ≤ 1 }
 {
-    choice::bit((row.sort == PUBLISHER) | (row.sort == WRITER)) as u32
+    u32::from((row.sort == PUBLISHER) | (row.sort == WRITER))
 }
 
 // The claim that stands here, and whose row this is.
 fn claim_at(file: &[u8], table: &[u8], at: usize, row: Row, party: u32) -> Next
     requires { Within file.now table.now at party × ClaimRow row (take 3 (drop at file.now)) }
-    ensures { Ahead file.now table.now at party result }
+    ensures { Found file.now table.now at party result }
 {
     let end = at + row.size();
     let record = &file[at..end];
@@ -212,14 +192,13 @@ fn claim_at(file: &[u8], table: &[u8], at: usize, row: Row, party: u32) -> Next
     let claim = entry(record, publishers, place, territories::count(table), party);
     Next {
         at: end + 2,
-        party: party,
-        found: true,
-        claim: claim,
+        party,
+        claim,
     }
 }
 
-// From a byte on, in a transaction after its header, where so many parties have begun: the next claim.
-pub fn next_claim(file: &[u8], table: &[u8], at: usize, party: u32) -> Next
+// From a byte on, in a transaction after its header, where so many parties have begun: the next claim, if one is left.
+pub fn next_claim(file: &[u8], table: &[u8], at: usize, party: u32) -> Option<Next>
     requires { Within file.now table.now at party }
     ensures { Ahead file.now table.now at party result }
 {
@@ -230,16 +209,10 @@ pub fn next_claim(file: &[u8], table: &[u8], at: usize, party: u32) -> Next
         let k = transactions::hint_at(file, here);
         let row = transactions::row_at(rows[k], file, here);
         if row.class != DETAIL {
-            let claim = no_claim();
-            return Next {
-                at: here,
-                party: parties,
-                found: false,
-                claim: claim,
-            };
+            return None;
         }
         if (row.sort == PUBLISHERS_CLAIM) | (row.sort == WRITERS_CLAIM) {
-            return claim_at(file, table, here, row, parties);
+            return Some(claim_at(file, table, here, row, parties));
         }
         parties += parties_in(row);
         here += row.size() + 2;

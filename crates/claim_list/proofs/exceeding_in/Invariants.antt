@@ -1,10 +1,7 @@
-use Rattle.std.proofs.Common.{◌-◌, ◌≤◌, take}
+use Rattle.std.proofs.Common.{take}
 use Rattle.claims.specs.Work.{Counted}
 use Rattle.claim_list.proofs.exceeding_in.Given as goal
 
--- the first i claims are counted
-abbrev pub invariant-loop-i : goal.invariant-loop-i
-invariant-loop-i l = (l.i ≤ l.n) × Counted l.table (take l.i l.claims) l.last l.work
-
-abbrev pub decreases-loop-i : goal.decreases-loop-i
-decreases-loop-i l = l.n - l.i
+-- the claims so far are counted
+abbrev pub invariant-loop-claim : goal.invariant-loop-claim
+invariant-loop-claim l = Counted l.table (take l.claim-index l.claims) l.last l.work

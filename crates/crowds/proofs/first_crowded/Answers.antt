@@ -1,5 +1,4 @@
 -- `crowds::first_crowded` meets its contract: each turn passes one record more.
-use Prim.Native.Nat.{◌-◌}
 use native.Mathlib.Omega.{arith}
 use Rattle.kinds.proofs.Laws.{hinted}
 use Rattle.structure.proofs.Rows.{in_table}

@@ -12,7 +12,7 @@ use Rattle.rules.proofs.Names.{right-table}
 use Rattle.territories.proofs.Laws.{place-within, length-codes}
 use Rattle.transactions.specs.Walk.{rest_at}
 use Rattle.transactions.proofs.Standing.{ends, lent}
-use Rattle.parties.proofs.Steps.{claim-record, ahead-claim}
+use Rattle.parties.proofs.Steps.{claim-record, found-claim}
 use Rattle.parties.proofs.claim_at.Goals as goal
 
 pub slice_bounds-record-end : goal.slice_bounds-record-end
@@ -68,4 +68,4 @@ returns c =
     (c.code.ensures.result_value ∙ ap claimed record-lent) in
     let pre = c.requires in
     let entry = rw record-lent at c.entry-claim.ensures in
-    ahead-claim pre.0 pre.1.0 pre.1.1 _ (ap (λ n. n + 2) end) pre.1.2 _ (entry _ placed c.count.ensures)
+    found-claim pre.0 pre.1.0 pre.1.1 _ (ap (λ n. n + 2) end) pre.1.2 _ (entry _ placed c.count.ensures)

@@ -7,7 +7,7 @@ use Rattle.format.specs.Structure.{most_bytes}
 use Rattle.kinds.proofs.Laws.{hinted}
 use Rattle.structure.proofs.Rows.{in_table}
 use Rattle.transactions.proofs.Standing.{ends}
-use Rattle.parties.proofs.Steps.{three, fewer, within-next, entries-passed, ahead-from, ahead_none}
+use Rattle.parties.proofs.Steps.{three, fewer, within-next, entries-passed, found-from, ended}
 use Rattle.parties.proofs.next_claim.Goals as goal
 
 pub loop-rows-init : goal.loop-rows-init
@@ -26,7 +26,7 @@ row_at-row-requires c =
 pub returns-then-row-ne-DETAIL : goal.returns-then-row-ne-DETAIL
 returns-then-row-ne-DETAIL c =
     let (within, same) = c.loop-rows.invariant in
-    ahead-from same (ahead_none within c.row_at-row.ensures c.if-row-ne-DETAIL.true _ refl)
+    same ∙ ended within c.row_at-row.ensures c.if-row-ne-DETAIL.true
 
 -- ---- a claim
 pub claim_at-requires : goal.claim_at-requires
@@ -34,7 +34,7 @@ claim_at-requires c =
     (c.loop-rows.invariant.0, (c.row_at-row.ensures, c.if-row-ne-DETAIL.false, c.if-row.true))
 
 pub returns-then-row : goal.returns-then-row
-returns-then-row c = ahead-from c.loop-rows.invariant.1 c.claim_at.ensures
+returns-then-row c = found-from c.loop-rows.invariant.1 c.claim_at.ensures
 
 pub overflow_add-parties : goal.overflow_add-parties
 overflow_add-parties c =

@@ -5,4 +5,4 @@ use Rattle.crowds.proofs.Walk.past.Goals as goal
 pub returns : goal.returns
 unfolding passed
 returns c =
-    rw (c.index-2.ensures, c.index.ensures, c.size.ensures, c.index-claims.ensures)
+    rw (c.pick-2.ensures, c.pick.ensures, c.size.ensures, c.pick-claims.ensures)

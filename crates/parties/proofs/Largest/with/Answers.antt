@@ -14,6 +14,5 @@ with-requires c =
 
 pub returns : goal.returns
 returns c es most =
-    let shares = c.struct_known-1.given.1.1.1 in
-    most-on most _ (ne_eqb _ 0 c.if-claim-eq0.false) (omega (arith, shares.0), omega (arith, shares.1.0), omega (arith, shares.1.1.0))
+    most-on most _ (ne_eqb _ 0 c.if-claim-eq0.false) (omega arith, omega arith, omega arith)
     _ _ _ _ c.only.ensures.value c.only-2.ensures.value c.with.ensures c.larger_of.ensures
