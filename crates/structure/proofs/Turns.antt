@@ -13,7 +13,7 @@ use borrow.Author.Tests.{eq-eqb, ne_eqb}
 use Rattle.format.specs.Bytes.{Bytes, every, is_text, same_bytes, begins_pair}
 use Rattle.format.specs.Table.{Class}
 use Rattle.format.specs.Cwr22.{cwr22}
-use Rattle.format.specs.Checks.{Counts, none_counted, count, class_at, cls, typed, may_follow, slot, expected, closes, rightly_numbered, ok8, ok9}
+use Rattle.format.specs.Checks.{Counts, count, class_at, cls, typed, may_follow, slot, expected, closes, rightly_numbered, ok8, ok9}
 use Rattle.format.specs.Structure.{unless}
 use Rattle.kinds.specs.Rows.{kinds, row_for, type_of}
 use Rattle.kinds.specs.declared.Row.{Row}
@@ -151,10 +151,6 @@ module _ (f : Bytes) (asked : Bool) (s : Stand) (row : Row) where
 
 pub bounded-start : (f : Bytes) (n : CodeCounts) → Kept n → n.records ≡ 0 → Bounded f (record { at = 0; class = 6; counts = n })
 bounded-start f n w z = record { inside = omega arith; class = omega arith; kept = w; few = omega (arith, z) }
-
-pub stood-start : (f : Bytes) (asked : Bool) (n : CodeCounts) → counts_in n ≡ none_counted → Kept n → n.records ≡ 0
-    → Stood f asked (record { at = 0; class = 6; counts = n })
-stood-start f asked n e w z = record { bounded = bounded-start f n w z; rest = λ version. rw e }
 
 module _ (l : List Row) (table : l ≡ kinds) (k : ℕ) (few : k < 38) (d : Row) where
   pub stood-by : (f : Bytes) (asked : Bool) (s next : Stand) → Stood f asked s → RightAt f asked s (get_or l k d)

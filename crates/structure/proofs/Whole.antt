@@ -43,10 +43,6 @@ module _ (asked version : Bool) (p : Class) (n : Counts) (i : ℕ) (e : i ≡ n.
   lines-fault (good rs) k q = absurd (never (i + length rs) k q)
   lines-fault (bad j) k q = let s : i + j ≡ k = cc in ap (refused 4) (omega (arith, e))
 
-  pub lines-good : (ls : Lines) (k : ℕ) → scanned i ls ≡ Ok k → is_good ls ≡ true
-  lines-good (good rs) k q = refl
-  lines-good (bad j) k q = absurd (never k (i + j) (sym q))
-
   pub lines-many : (ls : Lines) (k : ℕ) → scanned i ls ≡ Ok k → most_records < k
       → refused 5 most_records ≡ lines_from cwr22 asked version p n ls
   unfolding lines_from

@@ -56,6 +56,7 @@ const VERSION: usize = 102;
 const REVISION: usize = 105;
 
 // 10: HDR's version and revision.
+#[tactic(auto, unfolding(format::specs::Cwr22::version22))]
 fn version(record: &[u8]) -> bool
     ensures { result ≡ version22 «record».now }
 {
@@ -128,12 +129,10 @@ fn walk(file: &[u8], asked: bool) -> Stand
         counts: none,
     };
     loop {
-        let at = s.at;
-        if file.len() - at < 3 {
+        let [a, b, c, ..] = &file[s.at..] else {
             return s;
-        }
-        let k = kinds::hint(file[at], file[at + 1], file[at + 2]);
-        let row = rows[k];
+        };
+        let row = rows[kinds::hint(*a, *b, *c)];
         if !right(file, asked, s, row) {
             return s;
         }
@@ -175,6 +174,7 @@ fn more(asked: bool, s: Stand, m: FirstFaults, record: &[u8], row: Row) -> First
 }
 
 // What is left to say after the last record.
+#[tactic(auto, using(crate::proofs::Faults::at_trl, crate::proofs::Faults::fault_first), unfolding(crate::specs::Rest::at_end))]
 fn ended(version: bool, s: Stand, m: FirstFaults) -> Answer
     requires { s.class ≤ 6 }
     ensures { (asked : Bool) → answer_of result ≡ at_end cwr22 asked version (faults_of m) (class_at s.class) (counts_in s.counts) }

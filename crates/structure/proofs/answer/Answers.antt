@@ -15,9 +15,6 @@ use Rattle.structure.proofs.answer.Goals as goal
 pub returns-then-file-gt-MOST_BYTES : goal.returns-then-file-gt-MOST_BYTES
 returns-then-file-gt-MOST_BYTES c = whole_long c.args.file.now c.args.asked c.if-file-gt-MOST_BYTES.true
 
-pub scan-requires : goal.scan-requires
-scan-requires c = (c.walk-s.ensures.bounded, c.if-file-gt-MOST_BYTES.false)
-
 pub returns : goal.returns
 returns c =
     let g = c.args in

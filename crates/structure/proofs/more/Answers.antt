@@ -4,7 +4,7 @@ use Rattle.format.specs.Checks.{class_at}
 use Rattle.counts.specs.Counting.{counts_in}
 use Rattle.structure.specs.Walk.{faults_of}
 use Rattle.structure.proofs.Rows.{row-six, row_room}
-use Rattle.structure.proofs.Faults.{fault-first}
+use Rattle.structure.proofs.Faults.{fault_first}
 use Rattle.structure.proofs.Turns.{faults-more}
 use Rattle.structure.proofs.more.Goals as goal
 
@@ -22,5 +22,5 @@ returns c =
     let g = c.args in
     faults-more g.«record».now g.row c.requires.row_value.0 g.asked (faults_of g.m) (class_at g.s.class) (counts_in g.s.counts) _
     c.follows.result c.numbered-held.result c.follows.ensures c.numbered-held.ensures
-    (fault-first _ _ c.or.ensures c.unless.ensures) (fault-first _ _ c.or-2.ensures c.unless-2.ensures)
-    (fault-first _ _ c.or-3.ensures c.unless-3.ensures)
+    (fault_first _ _ c.or.ensures c.unless.ensures) (fault_first _ _ c.or-2.ensures c.unless-2.ensures)
+    (fault_first _ _ c.or-3.ensures c.unless-3.ensures)

@@ -1,11 +1,7 @@
 -- `structure::right` meets its contract: a yes is a yes of each test.
-use mathlib.Core.Bool.{false≢true}
 use mathlib.Core.Path.{refl}
 use Rattle.structure.proofs.Turns.{right-at}
 use Rattle.structure.proofs.right.Goals as goal
-
-pub returns-then-file-at : goal.returns-then-file-at
-returns-then-file-at c = λ e. absurd (false≢true e)
 
 pub returns : goal.returns
 returns c =

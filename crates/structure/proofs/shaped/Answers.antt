@@ -1,5 +1,0 @@
--- `structure::shaped` meets its contract.
-use Rattle.structure.proofs.shaped.Goals as goal
-
-pub returns : goal.returns
-returns c = rw c.size.ensures
