@@ -118,27 +118,23 @@ module _ (tables : Tables) (t : ℕ) (named : Bytes) (rs : List Bytes) {i n : �
 
 -- ---- a file
 
-none-counted : Counts [] [] (replicate 64 0) (replicate 4 0)
-unfolding counts_by_finding counts_by_level
-none-counted = record { by_finding = refl; by_level = refl }
-
-pub begun-none : (i : ℕ) → Begun i (replicate 64 0) (replicate 4 0)
-begun-none i = record { sets = []; verdicts = []; counts = none-counted; few_sets = omega arith; few_verdicts = omega arith }
+pub begun-none : {fs ls : List ℕ} (i : ℕ) → Counts [] [] fs ls → Begun i fs ls
+begun-none i none = record { sets = []; verdicts = []; counts = none; few_sets = omega arith; few_verdicts = omega arith }
 
 -- its groups, with HDR and TRL around them
-module _ {f : Bytes} (h : Here f 0 unknown (rest_at f 0)) (tables : Tables) (t : ℕ) {n : ℕ} {fs ls : List ℕ}
-    (groups : CountedGroups tables t 1 n (groups_in cwr22 (rest_at f 169)) (replicate 64 0) (replicate 4 0) fs ls) where
-  all-records : Part 0 (n + 1) (file_verdicts tables t (content f)) (file_findings tables t (content f)) (replicate 64 0) (replicate 4 0) fs ls
+module _ {f : Bytes} (h : Here f 0 unknown (rest_at f 0)) (tables : Tables) (t : ℕ) {n : ℕ} {fs₀ ls₀ fs ls : List ℕ} (none : Counts [] [] fs₀ ls₀)
+    (groups : CountedGroups tables t 1 n (groups_in cwr22 (rest_at f 169)) fs₀ ls₀ fs ls) where
+  all-records : Part 0 (n + 1) (file_verdicts tables t (content f)) (file_findings tables t (content f)) fs₀ ls₀ fs ls
   unfolding file_findings_by file_verdicts_by
   all-records = rw (all-groups h) (part-around groups {j = 0} (omega arith) refl)
 
   pub file-findings : fs ≡ counts_by_finding (file_findings tables t (content f))
-  file-findings = (all-records.counted [] [] none-counted).by_finding
+  file-findings = (all-records.counted [] [] none).by_finding
 
   pub file-grown : Grown [] (file_verdicts tables t (content f)) (n + 1) (counts_by_level []) ls
   file-grown = record {
     were = refl;
-    are = (all-records.counted [] [] none-counted).by_level;
+    are = (all-records.counted [] [] none).by_level;
     all = omega (arith, all-records.end, all-records.even);
     low = verdicts-most tables t (content f);
   }

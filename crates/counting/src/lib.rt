@@ -19,7 +19,7 @@ ghost use Rattle.transactions.specs.Walk.{rest_at, front_of, Prepared, PastTrans
 ghost use Rattle.files.specs.Levels.{transactions_of, group_of, PastTransactions, PastGroup, PastGroups};
 ghost use Rattle.counting.specs.Levels.{transactions_among, MissingOn, CountedTransaction, CountedTransactions, CountedGroup, CountedGroups};
 
-use figures::{Figures, Missing};
+use figures::{Counters, Figures, Missing};
 use files::Next;
 use kinds::HEAD;
 use totals::Rights;
@@ -42,12 +42,11 @@ fn count_transaction(
     named: &[u8],
     t: u64,
     slots: &tables::Slots,
-    carriers: &mut [u64],
-    levels: &mut [u64],
+    counters: &mut Counters,
 ) -> Counted
     requires file_len_bound { (length file.now ≤ most_bytes) × Here file.now at head (rest_at file.now at)
         × (cls cwr22 (first_record (rest_at file.now at)) ≡ head) × (index + length (rest_at file.now at) ≤ most_records)
-        × Begun index carriers.old levels.old }
+        × Begun index counters.old.findings counters.old.levels }
     requires t_le_largest_tolerance { (t ≤ largest_tolerance) × Prepared slots.now }
     ensures past_transaction { PastTransaction named.now file.now (index + length (rest_at file.now at))
         (rest_at file.now at) result.passed }
@@ -55,30 +54,23 @@ fn count_transaction(
         × UpTo (length (front_of (rest_at file.now at)).details) result.total }
     ensures counted_transaction { (tables : Tables) → Indexed tables slots.now
         → CountedTransaction tables t named.now index result.passed.index (front_of (rest_at file.now at))
-        carriers.old levels.old carriers.new levels.new }
+        counters.old.findings counters.old.levels counters.new.findings counters.new.levels }
 {
-    let mut no_verdicts: [u8; 1] = [0; 1];
-    let mut no_findings: [u8; 1] = [0; 1];
-    let before = figures::copied(levels);
+    let before = counters.levels;
     let d = transactions::judge_details(
         file,
         at + kinds::HEADER_LENGTH as usize + 2,
         index + 1,
         slots,
         Purpose::Count,
-        &mut no_verdicts[0..0],
-        &mut no_findings[0..0],
-        carriers,
-        levels,
+        &mut [],
+        &mut [],
+        counters,
     );
     let w = d.walk;
-    let y = w.tally;
-    let links = d.links;
-    let h = transactions::judge_header(file, at, named, t, slots, y, links);
-    figures::count(h.set, h.level, carriers, levels);
-    figures::settle_transaction(h.rejects | d.rejects, w.index - index, before, levels);
-    let totals = y.totals;
-    let total = totals.whole();
+    let h = transactions::judge_header(file, at, named, t, slots, w.tally, d.links);
+    counters.count(h.set, h.level);
+    counters.settle_transaction(h.rejects | d.rejects, w.index - index, before);
     Counted {
         passed: Passed {
             at: w.at,
@@ -86,7 +78,7 @@ fn count_transaction(
             class: d.class,
             stray: h.stray,
         },
-        total: total,
+        total: w.tally.totals.whole(),
     }
 }
 
@@ -108,18 +100,17 @@ fn count_transactions(
     t: u64,
     slots: &tables::Slots,
     missing: Missing,
-    carriers: &mut [u64],
-    levels: &mut [u64],
+    counters: &mut Counters,
 ) -> Run
     requires file_len_bound { (length file.now ≤ most_bytes) × Here file.now start grh (rest_at file.now start)
-        × (first + length (rest_at file.now start) ≤ most_records) × Begun first carriers.old levels.old × WithinAll first missing }
+        × (first + length (rest_at file.now start) ≤ most_records) × Begun first counters.old.findings counters.old.levels × WithinAll first missing }
     requires t_le_largest_tolerance { (t ≤ largest_tolerance) × Prepared slots.now }
     ensures past_transactions { PastTransactions named.now file.now (first + length (rest_at file.now start))
         (rest_at file.now start) result.passed }
     ensures missing_on { MissingOn first result.passed.index (transactions_of (rest_at file.now start)) missing result.missing }
     ensures counted_transactions { (tables : Tables) → Indexed tables slots.now
         → CountedTransactions tables t named.now first result.passed.index (transactions_of (rest_at file.now start))
-        carriers.old levels.old carriers.new levels.new }
+        counters.old.findings counters.old.levels counters.new.findings counters.new.levels }
 {
     let mut p = Passed {
         at: start,
@@ -129,10 +120,9 @@ fn count_transactions(
     };
     let mut m = missing;
     while p.class == HEAD {
-        let one = count_transaction(file, p.at, p.index, named, t, slots, carriers, levels);
+        let one = count_transaction(file, p.at, p.index, named, t, slots, counters);
         let q = one.passed;
-        let total = one.total;
-        m = m.with(total);
+        m = m.with(one.total);
         p = Passed {
             at: q.at,
             index: q.index,
@@ -161,44 +151,32 @@ fn count_group(
     t: u64,
     slots: &tables::Slots,
     missing: Missing,
-    carriers: &mut [u64],
-    levels: &mut [u64],
+    counters: &mut Counters,
 ) -> Section
     requires file_len_bound { (length file.now ≤ most_bytes) × Here file.now at grt (rest_at file.now at)
         × (cls cwr22 (first_record (rest_at file.now at)) ≡ grh) × (index + length (rest_at file.now at) ≤ most_records)
-        × Begun index carriers.old levels.old × WithinAll index missing }
+        × Begun index counters.old.findings counters.old.levels × WithinAll index missing }
     requires t_le_largest_tolerance { (t ≤ largest_tolerance) × Prepared slots.now }
     ensures past_group { PastGroup file.now (index + length (rest_at file.now at)) (rest_at file.now at) result.next }
     ensures missing_on { MissingOn index result.next.index (group_of (rest_at file.now at)).transactions missing result.missing }
     ensures counted_group { (tables : Tables) → Indexed tables slots.now
         → CountedGroup tables t index result.next.index (group_of (rest_at file.now at))
-        carriers.old levels.old carriers.new levels.new }
+        counters.old.findings counters.old.levels counters.new.findings counters.new.levels }
 {
-    let before = figures::copied(levels);
+    let before = counters.levels;
     let end = at + kinds::GRH_LENGTH as usize;
     let opening = &file[at..end];
     let named = text::field(opening, 4, 3);
-    let run = count_transactions(
-        file,
-        end + 2,
-        index + 1,
-        named,
-        t,
-        slots,
-        missing,
-        carriers,
-        levels,
-    );
+    let run = count_transactions(file, end + 2, index + 1, named, t, slots, missing, counters);
     let p = run.passed;
-    let m = run.missing;
     let next = p.index + 1;
-    figures::settle_group(p.stray, next - index, before, levels);
+    counters.settle_group(p.stray, next - index, before);
     Section {
         next: Next {
             at: p.at + kinds::GRT_LENGTH as usize + 2,
             index: next,
         },
-        missing: m,
+        missing: run.missing,
     }
 }
 
@@ -212,17 +190,16 @@ fn count_groups(
     t: u64,
     slots: &tables::Slots,
     missing: Missing,
-    carriers: &mut [u64],
-    levels: &mut [u64],
+    counters: &mut Counters,
 ) -> Section
     requires file_len_bound { (length file.now ≤ most_bytes) × Here file.now start hdr (rest_at file.now start)
-        × (first + length (rest_at file.now start) ≤ most_records) × Begun first carriers.old levels.old × WithinAll first missing }
+        × (first + length (rest_at file.now start) ≤ most_records) × Begun first counters.old.findings counters.old.levels × WithinAll first missing }
     requires t_le_largest_tolerance { (t ≤ largest_tolerance) × Prepared slots.now }
     ensures past_groups { PastGroups file.now (first + length (rest_at file.now start)) result.next }
     ensures missing_on { MissingOn first result.next.index (transactions_among (groups_in cwr22 (rest_at file.now start))) missing result.missing }
     ensures counted_groups { (tables : Tables) → Indexed tables slots.now
         → CountedGroups tables t first result.next.index (groups_in cwr22 (rest_at file.now start))
-        carriers.old levels.old carriers.new levels.new }
+        counters.old.findings counters.old.levels counters.new.findings counters.new.levels }
 {
     let mut n = Next {
         at: start,
@@ -230,7 +207,7 @@ fn count_groups(
     };
     let mut m = missing;
     while files::is_group(file, n.at) {
-        let one = count_group(file, n.at, n.index, t, slots, m, carriers, levels);
+        let one = count_group(file, n.at, n.index, t, slots, m, counters);
         n = one.next;
         m = one.missing;
     }
@@ -249,25 +226,20 @@ pub fn count_file(file: &[u8], t: u64, slots: &tables::Slots) -> Figures
     ensures figures_of { (tables : Tables) → Indexed tables slots.now → t ≡ sheet_tolerance
         → FiguresOf (record { tables = tables; file = file.now }) result }
 {
-    let mut carriers: [u64; 64] = [0; 64];
-    let mut levels: [u64; 4] = [0; 4];
-    let none = Missing::none();
+    let mut counters = Counters::none();
     let all = count_groups(
         file,
         kinds::HDR_LENGTH as usize + 2,
         1,
         t,
         slots,
-        none,
-        &mut carriers,
-        &mut levels,
+        Missing::none(),
+        &mut counters,
     );
-    let m = all.missing;
     let n = all.next;
-    let verdicts = figures::by_verdict(n.index + 1, levels);
     Figures {
-        missing: m,
-        findings: carriers,
-        verdicts: verdicts,
+        missing: all.missing,
+        findings: counters.findings,
+        verdicts: counters.by_verdict(n.index + 1),
     }
 }

@@ -25,8 +25,9 @@ larger-one m n = rw (larger-max n 0, larger-max m (max n 0), larger-max m n) (om
 
 -- a difference of the totals, added up and at its largest
 module _ (f : ℕ → ℕ) (totals : List ℕ) (total : ℕ) where
-  largest-more : largest (map f (totals ++ total ∷ [])) ≡ larger (largest (map f totals)) (f total)
-  largest-more = largest-of f totals (total ∷ []) ∙ larger-one (largest (map f totals)) (f total)
+  largest-more : largest (map f (totals ++ total ∷ [])) ≡ max (largest (map f totals)) (f total)
+  largest-more =
+      largest-of f totals (total ∷ []) ∙ larger-one (largest (map f totals)) (f total) ∙ larger-max (largest (map f totals)) (f total)
 
   sum_more : sum (map f (totals ++ total ∷ [])) ≡ sum (map f totals) + f total
   sum_more = ap sum (map-append f totals (total ∷ [])) ∙ rw (sum-append (map f totals) (f total ∷ [])) (omega arith)
@@ -35,8 +36,8 @@ module _ (f : ℕ → ℕ) (totals : List ℕ) (total : ℕ) where
 abbrev pub one_more : Misses → ℕ → Misses
 one_more m total = record {
   transactions = m.transactions + 1;
-  shortfall = larger m.shortfall (full_share - total);
-  excess = larger m.excess (total - full_share);
+  shortfall = max m.shortfall (full_share - total);
+  excess = max m.excess (total - full_share);
   short = m.short + (full_share - total);
   over = m.over + (total - full_share);
 }

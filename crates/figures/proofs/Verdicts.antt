@@ -115,15 +115,6 @@ at_each (suc n) f (suc k) h = at_each n (λ m. f (suc m)) k (le_of_suc-le-suc h)
 four_same : {a b c d a' b' c' d' : ℕ} → a ≡ a' → b ≡ b' → c ≡ c' → d ≡ d' → a ∷ b ∷ c ∷ d ∷ [] ≡ a' ∷ b' ∷ c' ∷ d' ∷ []
 four_same a b c d = rw (a, b, c, d)
 
--- four counts, one by one
-pub one_by_one : (ls : List ℕ) → length ls ≡ 4 → at ls 0 ∷ at ls 1 ∷ at ls 2 ∷ at ls 3 ∷ [] ≡ ls
-one_by_one [] e = absurd (omega (arith, e))
-one_by_one (a ∷ []) e = absurd (omega (arith, e))
-one_by_one (a ∷ b ∷ []) e = absurd (omega (arith, e))
-one_by_one (a ∷ b ∷ c ∷ []) e = absurd (omega (arith, e))
-one_by_one (a ∷ b ∷ c ∷ d ∷ []) e = refl
-one_by_one (a ∷ b ∷ c ∷ d ∷ e' ∷ ls) e = absurd (omega (arith, e))
-
 -- nothing is raised to 0
 raised-none : (vs : List ℕ) → raised 0 vs ≡ vs
 unfolding raised
@@ -176,12 +167,12 @@ module _ {us vs : List ℕ} {n : ℕ} {before ls : List ℕ} (grown : Grown us v
       ))
       (omega (arith, how_many-append (eqb 4) us vs, how_many-append (eqb 4) us (raised 3 vs), above 3 vs 4 (omega arith)))
 
-  pub settled-4 : set (set (set (set ls 0 (at before 0)) 1 (at before 1)) 2 (at before 2)) 3 (at before 3 + n) ≡ counts_by_level (us ++ raised 4 vs)
+  pub settled-4 : set before 3 (at before 3 + n) ≡ counts_by_level (us ++ raised 4 vs)
   unfolding counts_by_level
-  settled-4 = ap (λ l. set (set (set (set l 0 (at before 0)) 1 (at before 1)) 2 (at before 2)) 3 (at before 3 + n)) grown.are ∙ four_same
-      (omega (arith, were-at 0 (omega arith), how_many-append (eqb 1) us (raised 4 vs), below 4 vs 1 (omega arith)))
-      (omega (arith, were-at 1 (omega arith), how_many-append (eqb 2) us (raised 4 vs), below 4 vs 2 (omega arith)))
-      (omega (arith, were-at 2 (omega arith), how_many-append (eqb 3) us (raised 4 vs), below 4 vs 3 (omega arith)))
+  settled-4 = ap (λ l. set l 3 (at before 3 + n)) grown.were ∙ four_same
+      (omega (arith, how_many-append (eqb 1) us (raised 4 vs), below 4 vs 1 (omega arith)))
+      (omega (arith, how_many-append (eqb 2) us (raised 4 vs), below 4 vs 2 (omega arith)))
+      (omega (arith, how_many-append (eqb 3) us (raised 4 vs), below 4 vs 3 (omega arith)))
       (omega (
         arith,
         were-at 3 (omega arith),

@@ -28,17 +28,10 @@ pub struct Misses {
     pub over: u64,
 }
 
-// By how much a exceeds b; 0 where it does not.
-fn beyond(a: u64, b: u64) -> u64
-    ensures { result ≡ a - b }
-{
-    if a <= b { 0 } else { a - b }
-}
-
 pub fn larger(a: u64, b: u64) -> u64
     ensures { result ≡ Findings·larger a b }
 {
-    choice::number(a <= b, b, a)
+    choice::pick(a <= b, b, a)
 }
 
 impl Misses {
@@ -57,17 +50,17 @@ impl Misses {
     // With a transaction more that has this total.
     pub fn with(mut self, total: u64) -> Misses
         requires { Within most_records self × (total ≤ 200000 * most_records) }
-        ensures by_index { (totals : List ℕ) → self ≡ misses_of totals → result ≡ misses_of (totals ++ total ∷ []) }
-        ensures by_index_2 { (k n : ℕ) → Within k self → total ≤ 200000 * n → 1 ≤ n → Within (k + n) result }
+        ensures value { (totals : List ℕ) → self ≡ misses_of totals → result ≡ misses_of (totals ++ total ∷ []) }
+        ensures within { (k n : ℕ) → Within k self → total ≤ 200000 * n → 1 ≤ n → Within (k + n) result }
     {
         if (total == 0) | (total == Share::FULL) {
             return self;
         }
-        let short = beyond(Share::FULL, total);
-        let over = beyond(total, Share::FULL);
+        let short = Share::FULL.saturating_sub(total);
+        let over = total.saturating_sub(Share::FULL);
         self.transactions += 1;
-        self.shortfall = larger(self.shortfall, short);
-        self.excess = larger(self.excess, over);
+        self.shortfall = self.shortfall.max(short);
+        self.excess = self.excess.max(over);
         self.short += short;
         self.over += over;
         self
@@ -98,95 +91,100 @@ impl Missing {
     pub fn with(mut self, total: Rights) -> Missing
         requires { WithinAll most_records self × UpTo most_records total }
         ensures value { (xs : List Transaction) (x : Transaction) → self ≡ missing_of xs → total ≡ whole_of x → result ≡ missing_of (xs ++ x ∷ []) }
-        ensures by_index { (k n : ℕ) → WithinAll k self → UpTo n total → 1 ≤ n → WithinAll (k + n) result }
+        ensures within { (k n : ℕ) → WithinAll k self → UpTo n total → 1 ≤ n → WithinAll (k + n) result }
     {
-        let pr = self.pr;
-        let mr = self.mr;
-        let sr = self.sr;
-        self.pr = pr.with(total.pr);
-        self.mr = mr.with(total.mr);
-        self.sr = sr.with(total.sr);
+        self.pr = self.pr.with(total.pr);
+        self.mr = self.mr.with(total.mr);
+        self.sr = self.sr.with(total.sr);
         self
     }
 }
 
 // ---- records
 
+// How many records carry each finding, and how many have each of the verdicts 1 to 4: those with 0 are all others.
+#[derive(Clone, Copy)]
+pub struct Counters {
+    pub findings: [u64; 64],
+    pub levels: [u64; 4],
+}
+
+impl Counters {
+    // Of no record.
+    pub fn none() -> Counters
+        ensures { Counts [] [] result.findings result.levels }
+    {
+        Counters {
+            findings: [0; 64],
+            levels: [0; 4],
+        }
+    }
+
+    // One record more, with its findings and its verdict. Most have none, and nothing is done for those.
+    pub fn count(&mut self, set: u64, verdict: u8)
+        requires { Few self.old.findings self.old.levels × (verdict ≤ 4) }
+        ensures { (sets : List (List Bool)) (vs : List ℕ) (s : List Bool) → set ≡ set_of s → verdict ≡ worst s → length s ≤ many
+            → Counts sets vs self.old.findings self.old.levels
+            → Counts (sets ++ s ∷ []) (vs ++ verdict ∷ []) self.new.findings self.new.levels }
+    {
+        if 0 < verdict {
+            count_set(set, &mut self.findings);
+            let l = usize::from(verdict) - 1;
+            self.levels[l] += 1;
+        }
+    }
+
+    // After a transaction of so many records, each counted with its own verdict: where it is rejected, none of them stays below TR.
+    // `before` are the counts by level without it.
+    pub fn settle_transaction(&mut self, rejected: bool, records: usize, before: [u64; 4])
+        requires { Grows records before self.old.levels }
+        ensures findings { self.new.findings ≡ self.old.findings }
+        ensures levels { (us vs : List ℕ) → Grown us vs records before self.old.levels
+            → self.new.levels ≡ counts_by_level (us ++ raised (cond rejected (verdict TR) 0) vs) }
+    {
+        if rejected {
+            // All but those at GR.
+            let others = before[3] + records as u64 - self.levels[3];
+            self.levels[0] = before[0];
+            self.levels[1] = before[1];
+            self.levels[2] = before[2] + others;
+        }
+    }
+
+    // After a group: where it is rejected, all its records come to GR.
+    pub fn settle_group(&mut self, rejected: bool, records: usize, before: [u64; 4])
+        requires { Grows records before self.old.levels }
+        ensures findings { self.new.findings ≡ self.old.findings }
+        ensures levels { (us vs : List ℕ) → Grown us vs records before self.old.levels
+            → self.new.levels ≡ counts_by_level (us ++ raised (cond rejected (verdict GR) 0) vs) }
+    {
+        if rejected {
+            self.levels = before;
+            self.levels[3] = before[3] + records as u64;
+        }
+    }
+
+    // At the end of a file: how many of its records have each of the verdicts 0 to 4.
+    pub fn by_verdict(&self, records: usize) -> [u64; 5]
+        requires { Grows records (counts_by_level []) self.now.levels }
+        ensures { (vs : List ℕ) → Grown [] vs records (counts_by_level []) self.now.levels → result ≡ counts_by_verdict vs }
+    {
+        let [a, b, c, d] = self.levels;
+        [records as u64 - (a + b + c + d), a, b, c, d]
+    }
+}
+
 // One more for each finding in the set.
-fn count_set(set: u64, findings: &mut [u64])
-    requires { (length findings.old ≡ 64) × All (λ n. n ≤ most_records) findings.old }
+fn count_set(set: u64, findings: &mut [u64; 64])
+    requires { All (λ n. n ≤ most_records) findings.old }
     ensures { findings.new ≡ plus_bits findings.old (places 64 set) }
 {
     let mut left = set;
     while 0 < left {
         let i = u64::trailing_zeros(left) as usize;
-        findings[i] = findings[i] + 1;
+        findings[i] += 1;
         left = left - (1 << i);
     }
-}
-
-// One record more, with its findings and its verdict. Most have none, and nothing is done for those: how many have verdict 0 follows at the
-// end of the file from how many have another.
-pub fn count(set: u64, verdict: u8, findings: &mut [u64], levels: &mut [u64])
-    requires { Few findings.old levels.old × (verdict ≤ 4) }
-    ensures { (sets : List (List Bool)) (vs : List ℕ) (s : List Bool) → set ≡ set_of s → verdict ≡ worst s → length s ≤ many
-        → Counts sets vs findings.old levels.old
-        → Counts (sets ++ s ∷ []) (vs ++ verdict ∷ []) findings.new levels.new }
-{
-    if 0 < verdict {
-        count_set(set, findings);
-        let l = verdict as usize - 1;
-        levels[l] = levels[l] + 1;
-    }
-}
-
-// ---- levels
-
-// The counts as they are, kept while more is counted.
-pub fn copied(levels: &[u64]) -> [u64; 4]
-    requires { length levels.now ≡ 4 }
-    ensures { result ≡ levels.now }
-{
-    [levels[0], levels[1], levels[2], levels[3]]
-}
-
-// After a transaction of so many records, each counted with its own verdict: where it is rejected, none of them stays below TR. `before` are
-// the counts without it.
-pub fn settle_transaction(rejected: bool, records: usize, before: [u64; 4], levels: &mut [u64])
-    requires { Grows records before levels.old }
-    ensures { (us vs : List ℕ) → Grown us vs records before levels.old
-        → levels.new ≡ counts_by_level (us ++ raised (cond rejected (verdict TR) 0) vs) }
-{
-    if rejected {
-        // All but those at GR.
-        let others = before[3] + records as u64 - levels[3];
-        levels[0] = before[0];
-        levels[1] = before[1];
-        levels[2] = before[2] + others;
-    }
-}
-
-// After a group: where it is rejected, all its records come to GR.
-pub fn settle_group(rejected: bool, records: usize, before: [u64; 4], levels: &mut [u64])
-    requires { Grows records before levels.old }
-    ensures { (us vs : List ℕ) → Grown us vs records before levels.old
-        → levels.new ≡ counts_by_level (us ++ raised (cond rejected (verdict GR) 0) vs) }
-{
-    if rejected {
-        levels[0] = before[0];
-        levels[1] = before[1];
-        levels[2] = before[2];
-        levels[3] = before[3] + records as u64;
-    }
-}
-
-// At the end of a file: how many of its records have each of the verdicts 0 to 4.
-pub fn by_verdict(records: usize, levels: [u64; 4]) -> [u64; 5]
-    requires { Grows records (counts_by_level []) levels }
-    ensures { (vs : List ℕ) → Grown [] vs records (counts_by_level []) levels → result ≡ counts_by_verdict vs }
-{
-    let accepted = records as u64 - (levels[0] + levels[1] + levels[2] + levels[3]);
-    [accepted, levels[0], levels[1], levels[2], levels[3]]
 }
 
 // ---- a whole file

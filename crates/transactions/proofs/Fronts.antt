@@ -29,11 +29,12 @@ use Rattle.buffers.proofs.Entries.{first as before-others}
 use Rattle.totals.specs.Sums.{Below}
 use Rattle.tally.proofs.Laws.{below-limits}
 use Rattle.transactions.specs.declared.Details.{Details}
-use Rattle.transactions.specs.Walk.{PastDetails, Filled, FilledTransaction}
+use Rattle.transactions.specs.Walk.{rest_at, tail_of, Position, PastDetails, Filled, FilledTransaction}
 use Rattle.transactions.specs.declared.Purpose.TheVariants.{Write}
 use Rattle.transactions.specs.Purposes.{DoneDetails}
 use Rattle.transactions.proofs.Entries.{filled-raised}
-use Rattle.transactions.proofs.Sizes.{transaction-header, long}
+use Rattle.transactions.proofs.Levels.{standing}
+use Rattle.transactions.proofs.Sizes.{transaction-header, long, left_after, position-after, known-after}
 use Rattle.transactions.proofs.Gone.{length-parted}
 
 -- ---- a header is NWR or REV
@@ -54,6 +55,18 @@ pub header-here : {f : Bytes} {i : ℕ} {c : Class} {rs : List Bytes} → Here f
 header-here {rs = rs} h more its = (long transaction-header h more its, head-is (first_record rs) its)
 
 -- ---- what is known of its details
+
+-- where a header stands before record n, and its details after it
+module _ {f : Bytes} {at : ℕ} (n : ℕ) (here : Here f at head (rest_at f at)) (its : cls cwr22 (first_record (rest_at f at)) ≡ head) where
+  pub after-header : Position f (n + length (rest_at f at)) (at + 260 + 2) (n + 1) head (rest_at f (at + 260 + 2))
+  after-header = position-after transaction-header (standing n here) refl its _ refl
+
+  pub details-left : rest_at f (at + 260 + 2) ≡ tail_of (rest_at f at)
+  details-left = left_after transaction-header (standing n here) refl its _ refl
+
+  pub past-header : {d : Details} → PastDetails f (n + 1 + length (rest_at f (at + 260 + 2))) (rest_at f (at + 260 + 2)) d
+      → PastDetails f (n + length (rest_at f at)) (tail_of (rest_at f at)) d
+  past-header {d} past = known-after transaction-header (standing n here) refl its _ refl (λ k l. PastDetails f k l d) past
 
 pub past-below : {f : Bytes} {m : ℕ} {rs : List Bytes} {d : Details} → PastDetails f m rs d → length rs ≤ most_records
     → Below (2 ^ 60) d.walk.tally.totals

@@ -1,10 +1,11 @@
 -- A level of a file as its loop keeps it: the parts that it has gone over, and the records that are left. The same for the details of a
 -- transaction, the transactions of a group and the groups of a file, whatever is done with each part. Assumes nothing.
-use Prim.Native.Nat.{ℕ}
+use Prim.Native.Nat.{ℕ, ◌+◌}
 use mathlib.Core.Path.{◌≡◌, refl, sym, ap, ◌∙◌, subst}
 use mathlib.Core.Bool.{false}
 use mathlib.Core.List.{List, [], ◌∷◌, ◌++◌, append_assoc, append-nil}
 use lib.Dec.{T}
+use lib.ListN.{length}
 use Rattle.format.specs.Bytes.{Bytes}
 use Rattle.format.specs.Table.{Class, trl}
 use Rattle.format.specs.Cwr22.{cwr22}
@@ -26,6 +27,10 @@ module _ {f : Bytes} {at : ℕ} {c : Class} {rs : List Bytes} (h : Here f at c r
 
   pub first-here : Here f at c (first_record rs ∷ tail_of rs)
   first-here = subst (Here f at c) first-left h
+
+-- a walk that stands before record n, of as many as there are with those that are left
+pub standing : {f : Bytes} {at : ℕ} {c : Class} (n : ℕ) → Here f at c (rest_at f at) → Position f (n + length (rest_at f at)) at n c (rest_at f at)
+standing n h = record { here = h; left = refl }
 
 -- ---- parts
 

@@ -25,6 +25,7 @@ ghost use Rattle.transactions.specs.Purposes.{is_write, is_count, is_search, Wri
 
 use chains::Chains;
 use edits::Found;
+use figures::Counters;
 use findings::TR;
 use headers::{Head, Links};
 use kinds::{DETAIL, Row};
@@ -111,7 +112,7 @@ fn judge_detail(file: &[u8], row: Row, w: Walk, slots: &tables::Slots, chains: &
 
 // What a walk over details is for: their entries are written into the buffers of a check, they are counted for a sheet, or one that rejects
 // the transaction is searched for, and the walk ends there.
-#[derive(Clone, Copy)]
+#[derive(Clone, Copy, PartialEq, Eq)]
 pub enum Purpose {
     Write,
     Count,
@@ -119,34 +120,10 @@ pub enum Purpose {
 }
 
 impl Purpose {
-    fn is_write(self) -> bool
-        ensures { result ≡ is_write self }
-    {
-        match self {
-            Purpose::Write => true,
-            Purpose::Count => false,
-            Purpose::Search => false,
-        }
-    }
-
-    fn is_count(self) -> bool
-        ensures { result ≡ is_count self }
-    {
-        match self {
-            Purpose::Write => false,
-            Purpose::Count => true,
-            Purpose::Search => false,
-        }
-    }
-
     fn is_search(self) -> bool
         ensures { result ≡ is_search self }
     {
-        match self {
-            Purpose::Write => false,
-            Purpose::Count => false,
-            Purpose::Search => true,
-        }
+        self == Purpose::Search
     }
 }
 
@@ -155,26 +132,29 @@ fn write(purpose: Purpose, index: usize, found: Found, verdicts: &mut [u8], find
     requires { Writes (is_write purpose) index verdicts.old findings.old }
     ensures { Wrote (is_write purpose) index found verdicts.old findings.old verdicts.new findings.new }
 {
-    if purpose.is_write() {
-        buffers::settle(index, found.set, found.level, verdicts, findings);
+    match purpose {
+        Purpose::Write => buffers::settle(index, found.set, found.level, verdicts, findings),
+        Purpose::Count | Purpose::Search => {}
     }
 }
 
 // Whether it rejects the transaction; and it is counted, where details are. Most have no finding, and are done with at once.
-fn tell(purpose: Purpose, found: Found, carriers: &mut [u64], levels: &mut [u64]) -> bool
-    requires { Tells (is_count purpose) found.level carriers.old levels.old }
+fn tell(purpose: Purpose, found: Found, counters: &mut Counters) -> bool
+    requires { Tells (is_count purpose) found.level counters.old.findings counters.old.levels }
     ensures value { result ≡ eqb found.level (verdict Level-as-TR) }
-    ensures told { Told (is_count purpose) found carriers.old levels.old carriers.new levels.new }
+    ensures told { Told (is_count purpose) found counters.old.findings counters.old.levels counters.new.findings counters.new.levels }
 {
     if found.level == 0 {
         return false;
     }
     let rejects = found.level == TR;
-    if purpose.is_count() {
-        figures::count(found.set, found.level, carriers, levels);
-        return rejects;
+    match purpose {
+        Purpose::Count => {
+            counters.count(found.set, found.level);
+            rejects
+        }
+        Purpose::Write | Purpose::Search => rejects,
     }
-    rejects
 }
 
 // The details that stand here, after a header; the first of them is that record of the file. Each is judged and kept, as the purpose is;
@@ -187,19 +167,19 @@ pub fn judge_details(
     purpose: Purpose,
     verdicts: &mut [u8],
     findings: &mut [u8],
-    carriers: &mut [u64],
-    levels: &mut [u64],
+    counters: &mut Counters,
 ) -> Details
     requires file_len_bound { (length file.now ≤ most_bytes) × Here file.now start head (rest_at file.now start)
         × (first + length (rest_at file.now start) ≤ most_records)
-        × Lent purpose first (first + length (rest_at file.now start)) verdicts.old findings.old carriers.old levels.old }
+        × Lent purpose first (first + length (rest_at file.now start)) verdicts.old findings.old
+        counters.old.findings counters.old.levels }
     requires prepared { Prepared slots.now }
     ensures past_details { (is_search purpose && result.rejects) ≡ false
         → PastDetails file.now (first + length (rest_at file.now start)) (rest_at file.now start) result }
     ensures done_details { (tables : Tables) → Indexed tables slots.now
         → DoneDetails purpose tables first result.walk.index (span (is_detail cwr22) (rest_at file.now start)) result.rejects
-        verdicts.old findings.old carriers.old levels.old
-        verdicts.new findings.new carriers.new levels.new }
+        verdicts.old findings.old counters.old.findings counters.old.levels
+        verdicts.new findings.new counters.new.findings counters.new.levels }
 {
     let searched = purpose.is_search();
     let rows = kinds::table();
@@ -221,7 +201,7 @@ pub fn judge_details(
         let s = judge_detail(file, row, w, slots, &mut chains);
         let found = s.found;
         write(purpose, w.index, found, verdicts, findings);
-        rejects = rejects | tell(purpose, found, carriers, levels);
+        rejects |= tell(purpose, found, counters);
         w = s.walk;
     }
 }
@@ -290,8 +270,7 @@ pub fn judge_transaction(
         → FilledTransaction tables t named.now index result.index (front_of (rest_at file.now at))
         verdicts.old findings.old verdicts.new findings.new }
 {
-    let mut no_carriers: [u64; 1] = [0; 1];
-    let mut no_levels: [u64; 1] = [0; 1];
+    let mut none = Counters::none();
     let d = judge_details(
         file,
         at + kinds::HEADER_LENGTH as usize + 2,
@@ -300,13 +279,10 @@ pub fn judge_transaction(
         Purpose::Write,
         verdicts,
         findings,
-        &mut no_carriers[0..0],
-        &mut no_levels[0..0],
+        &mut none,
     );
     let w = d.walk;
-    let y = w.tally;
-    let links = d.links;
-    let h = judge_header(file, at, named, t, slots, y, links);
+    let h = judge_header(file, at, named, t, slots, w.tally, d.links);
     buffers::settle(index, h.set, h.level, verdicts, findings);
     let e = w.index;
     let least = buffers::least(h.rejects | d.rejects, TR);

@@ -21,8 +21,8 @@ count_groups-all-requires c =
         c.requires.file_len_bound.0,
         here.here,
         rw here.left c.requires.file_len_bound.2,
-        begun-none 1,
-        within_more (omega arith) c.none-none.ensures.1,
+        begun-none 1 c.none-counters.ensures,
+        within_more (omega arith) c.none.ensures.1,
       );
       t_le_largest_tolerance = c.requires.t_le_largest_tolerance;
     }
@@ -33,18 +33,18 @@ overflow_add-n c =
     omega (arith, c.count_groups-all.ensures.past_groups.position.left, (groups-here c.requires.file_len_bound.1).left, c.requires.file_len_bound.2) in
     omega (arith, few)
 
-pub by_verdict-verdicts-requires : goal.by_verdict-verdicts-requires
-by_verdict-verdicts-requires c =
+pub by_verdict-requires : goal.by_verdict-requires
+by_verdict-requires c =
     let few : c.count_groups-all.result.next.index + 1 ≤ most_records =
     omega (arith, c.count_groups-all.ensures.past_groups.position.left, (groups-here c.requires.file_len_bound.1).left, c.requires.file_len_bound.2) in
     let (some, indexed) = c.requires.t_le_largest_tolerance.1 in
-    file-grows c.requires.file_len_bound.1 some c.args.t (c.count_groups-all.ensures.counted_groups some indexed) few
+    file-grows c.requires.file_len_bound.1 some c.args.t c.none-counters.ensures (c.count_groups-all.ensures.counted_groups some indexed) few
 
 pub returns : goal.returns
 returns c =
     let few : c.count_groups-all.result.next.index + 1 ≤ most_records =
     omega (arith, c.count_groups-all.ensures.past_groups.position.left, (groups-here c.requires.file_len_bound.1).left, c.requires.file_len_bound.2) in
-    let none = c.none-none.ensures in
+    let none = c.none.ensures in
     let missing = c.count_groups-all.ensures.missing_on in
     let within = within_more {b = most_records} (omega (arith, few)) (missing.few (within_more (omega arith) none.1)) in record {
       within_all = within;
@@ -55,7 +55,7 @@ returns c =
           record {
             missing = missing.missing [] none.0 ∙ ap (λ gs. missing_of (transactions_among gs)) (sym (all-groups c.requires.file_len_bound.1));
             few = within;
-            findings = file-findings here tables t counted ∙ ap (λ n. counts_by_finding (file_findings tables n (content c.args.file.now))) short;
-            verdicts = c.by_verdict-verdicts.ensures _ (file-grown here tables t counted) ∙ ap (λ n. counts_by_verdict (file_verdicts tables n (content c.args.file.now))) short;
+            findings = file-findings here tables t c.none-counters.ensures counted ∙ ap (λ n. counts_by_finding (file_findings tables n (content c.args.file.now))) short;
+            verdicts = c.by_verdict.ensures _ (file-grown here tables t c.none-counters.ensures counted) ∙ ap (λ n. counts_by_verdict (file_verdicts tables n (content c.args.file.now))) short;
           };
     }

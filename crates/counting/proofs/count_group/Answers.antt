@@ -7,6 +7,7 @@ use Rattle.format.specs.Table.{grt}
 use Rattle.format.specs.Structure.{most_records}
 use Rattle.rules.specs.Works.{named_type}
 use Rattle.transactions.specs.Walk.{rest_at, tail_of, Position}
+use Rattle.transactions.proofs.Levels.{standing}
 use Rattle.transactions.proofs.Sizes.{group-header, left_after, position-after}
 use Rattle.files.specs.Levels.{PastTransactions}
 use Rattle.files.proofs.Groups.{opening-ends, opening-lent, past-inside, past-group}
@@ -15,19 +16,14 @@ use Rattle.counting.proofs.Shares.{within_more, missing-wider}
 use Rattle.counting.proofs.Wholes.{group-grows, counted-group}
 use Rattle.counting.proofs.count_group.Goals as goal
 
-pub copied-before-requires : goal.copied-before-requires
-copied-before-requires c = (begun-long c.requires.file_len_bound.4).1
-
 pub slice_bounds-opening-end : goal.slice_bounds-opening-end
 slice_bounds-opening-end c =
-    let position : Position c.args.file.now (c.args.index + length (rest_at c.args.file.now c.args.at)) c.args.at c.args.index grt (rest_at c.args.file.now c.args.at) =
-    record { here = c.requires.file_len_bound.1; left = refl } in
+    let position = standing c.args.index c.requires.file_len_bound.1 in
     omega (arith, opening-ends position c.requires.file_len_bound.2)
 
 pub count_transactions-run-requires : goal.count_transactions-run-requires
 count_transactions-run-requires c =
-    let position : Position c.args.file.now (c.args.index + length (rest_at c.args.file.now c.args.at)) c.args.at c.args.index grt (rest_at c.args.file.now c.args.at) =
-    record { here = c.requires.file_len_bound.1; left = refl } in
+    let position = standing c.args.index c.requires.file_len_bound.1 in
     let here = position-after group-header position refl c.requires.file_len_bound.2 _ refl in record {
       file_len_bound = (
         c.requires.file_len_bound.0,
@@ -42,10 +38,8 @@ count_transactions-run-requires c =
 -- ---- its levels
 pub overflow_add-next : goal.overflow_add-next
 overflow_add-next c =
-    let position : Position c.args.file.now (c.args.index + length (rest_at c.args.file.now c.args.at)) c.args.at c.args.index grt (rest_at c.args.file.now c.args.at) =
-    record { here = c.requires.file_len_bound.1; left = refl } in
-    let past : PastTransactions c.field-named.result.now c.args.file.now (c.args.index + length (rest_at c.args.file.now c.args.at)) (tail_of (rest_at c.args.file.now c.args.at)) c.count_transactions-run.result.passed =
-    past-inside position c.requires.file_len_bound.2 _ refl c.count_transactions-run.ensures.past_transactions in
+    let position = standing c.args.index c.requires.file_len_bound.1 in
+    let past = past-inside position c.requires.file_len_bound.2 _ refl c.count_transactions-run.ensures.past_transactions in
     let few : c.count_transactions-run.result.passed.index + 1 ≤ most_records =
     omega (arith, (past-group position c.requires.file_len_bound.2 past).position.left, c.requires.file_len_bound.3) in
     omega (arith, few)
@@ -58,61 +52,40 @@ overflow_sub-next c =
 
 pub settle_group-requires : goal.settle_group-requires
 settle_group-requires c =
-    let position : Position c.args.file.now (c.args.index + length (rest_at c.args.file.now c.args.at)) c.args.at c.args.index grt (rest_at c.args.file.now c.args.at) =
-    record { here = c.requires.file_len_bound.1; left = refl } in
-    let past : PastTransactions c.field-named.result.now c.args.file.now (c.args.index + length (rest_at c.args.file.now c.args.at)) (tail_of (rest_at c.args.file.now c.args.at)) c.count_transactions-run.result.passed =
-    past-inside position c.requires.file_len_bound.2 _ refl c.count_transactions-run.ensures.past_transactions in
+    let position = standing c.args.index c.requires.file_len_bound.1 in
+    let past = past-inside position c.requires.file_len_bound.2 _ refl c.count_transactions-run.ensures.past_transactions in
     let few : c.count_transactions-run.result.passed.index + 1 ≤ most_records =
     omega (arith, (past-group position c.requires.file_len_bound.2 past).position.left, c.requires.file_len_bound.3) in
-    let rest : rest_at c.args.file.now (c.args.at + 28 + 2) ≡ tail_of (rest_at c.args.file.now c.args.at) =
-    left_after group-header position refl c.requires.file_len_bound.2 _ refl in
+    let rest = left_after group-header position refl c.requires.file_len_bound.2 _ refl in
     let (some, indexed) = c.requires.t_le_largest_tolerance.1 in
     let counted = rw rest at (c.count_transactions-run.ensures.counted_transactions some indexed) in
-    rw c.copied-before.ensures
-    (group-grows some c.args.t _ (rest_at c.args.file.now c.args.at) c.requires.file_len_bound.4 counted few)
+    group-grows some c.args.t _ (rest_at c.args.file.now c.args.at) c.requires.file_len_bound.4 counted few
 
 -- ---- past it
 -- its GRT stands in the file
 pub overflow_add-result : goal.overflow_add-result
 overflow_add-result c =
-    let position : Position c.args.file.now (c.args.index + length (rest_at c.args.file.now c.args.at)) c.args.at c.args.index grt (rest_at c.args.file.now c.args.at) =
-    record { here = c.requires.file_len_bound.1; left = refl } in
-    let past : PastTransactions c.field-named.result.now c.args.file.now (c.args.index + length (rest_at c.args.file.now c.args.at)) (tail_of (rest_at c.args.file.now c.args.at)) c.count_transactions-run.result.passed =
-    past-inside position c.requires.file_len_bound.2 _ refl c.count_transactions-run.ensures.past_transactions in
+    let position = standing c.args.index c.requires.file_len_bound.1 in
+    let past = past-inside position c.requires.file_len_bound.2 _ refl c.count_transactions-run.ensures.past_transactions in
     omega (arith, past.position.here.within, c.requires.file_len_bound.0)
 
 pub overflow_add-result-2 : goal.overflow_add-result-2
 overflow_add-result-2 c =
-    let position : Position c.args.file.now (c.args.index + length (rest_at c.args.file.now c.args.at)) c.args.at c.args.index grt (rest_at c.args.file.now c.args.at) =
-    record { here = c.requires.file_len_bound.1; left = refl } in
-    let past : PastTransactions c.field-named.result.now c.args.file.now (c.args.index + length (rest_at c.args.file.now c.args.at)) (tail_of (rest_at c.args.file.now c.args.at)) c.count_transactions-run.result.passed =
-    past-inside position c.requires.file_len_bound.2 _ refl c.count_transactions-run.ensures.past_transactions in
+    let position = standing c.args.index c.requires.file_len_bound.1 in
+    let past = past-inside position c.requires.file_len_bound.2 _ refl c.count_transactions-run.ensures.past_transactions in
     omega (arith, past.position.here.within, c.requires.file_len_bound.0)
 
 pub returns : goal.returns
 returns c =
-    let position : Position c.args.file.now (c.args.index + length (rest_at c.args.file.now c.args.at)) c.args.at c.args.index grt (rest_at c.args.file.now c.args.at) =
-    record { here = c.requires.file_len_bound.1; left = refl } in
-    let past : PastTransactions c.field-named.result.now c.args.file.now (c.args.index + length (rest_at c.args.file.now c.args.at)) (tail_of (rest_at c.args.file.now c.args.at)) c.count_transactions-run.result.passed =
-    past-inside position c.requires.file_len_bound.2 _ refl c.count_transactions-run.ensures.past_transactions in
-    let rest : rest_at c.args.file.now (c.args.at + 28 + 2) ≡ tail_of (rest_at c.args.file.now c.args.at) =
-    left_after group-header position refl c.requires.file_len_bound.2 _ refl in
+    let position = standing c.args.index c.requires.file_len_bound.1 in
+    let past = past-inside position c.requires.file_len_bound.2 _ refl c.count_transactions-run.ensures.past_transactions in
+    let rest = left_after group-header position refl c.requires.file_len_bound.2 _ refl in
     let is-grh = c.requires.file_len_bound.2 in
     let rs = rest_at c.args.file.now c.args.at in
     let named = c.field-named.ensures.result_value ∙ ap named_type (opening-lent position is-grh _ refl) in
     let counted = c.count_transactions-run.ensures in record {
       past_group = past-group position is-grh past;
       missing_on = missing-wider (rw rest at counted.missing_on) (omega arith) (omega arith);
-      counted_group = λ tables e. counted-group tables c.args.t _ rs c.requires.file_len_bound.4 (rw rest at (counted.counted_transactions tables e)) named past.stray
-          (rw c.copied-before.ensures at c.settle_group.ensures);
+      counted_group = λ tables e. rw c.settle_group.ensures.findings (counted-group tables c.args.t _ rs c.requires.file_len_bound.4 (rw rest at (counted.counted_transactions tables e)) named past.stray
+          c.settle_group.ensures.levels);
     }
-
-pub shape_of-carriers : goal.shape_of-carriers
-shape_of-carriers c =
-    let (some, indexed) = c.requires.t_le_largest_tolerance.1 in
-    (begun-long (begun-on ((returns c).counted_group some indexed) c.requires.file_len_bound.4)).0 ∙ sym (begun-long c.requires.file_len_bound.4).0
-
-pub shape_of-levels : goal.shape_of-levels
-shape_of-levels c =
-    let (some, indexed) = c.requires.t_le_largest_tolerance.1 in
-    (begun-long (begun-on ((returns c).counted_group some indexed) c.requires.file_len_bound.4)).1 ∙ sym (begun-long c.requires.file_len_bound.4).1

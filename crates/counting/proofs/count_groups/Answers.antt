@@ -12,55 +12,41 @@ use Rattle.counting.proofs.Shares.{missing-none, missing-then}
 use Rattle.counting.proofs.count_groups.Goals as goal
 
 -- ---- what is counted so far
-pub loop-carriers-init : goal.loop-carriers-init
-loop-carriers-init c =
+pub loop-counters-init : goal.loop-counters-init
+loop-counters-init c =
     begins (record { here = c.requires.file_len_bound.1; left = refl }) (missing-none _ _, λ tables e. part-start _ _ _)
 
 pub is_group-requires : goal.is_group-requires
-is_group-requires c = in-file c.loop-carriers.invariant
+is_group-requires c = in-file c.loop-counters.invariant
 
 -- ---- one group more
 pub count_group-one-requires : goal.count_group-one-requires
 count_group-one-requires c =
-    let begun : Begun c.loop-carriers.n.index c.loop-carriers.carriers c.loop-carriers.levels =
+    let begun : Begun c.loop-counters.n.index c.loop-counters.counters.findings c.loop-counters.counters.levels =
     let (some, indexed) = c.requires.t_le_largest_tolerance.1 in
-    begun-on ((done c.loop-carriers.invariant).1 some indexed) c.requires.file_len_bound.3 in
-    let inv = c.loop-carriers.invariant in
+    begun-on ((done c.loop-counters.invariant).1 some indexed) c.requires.file_len_bound.3 in
+    let inv = c.loop-counters.invariant in
     let here = position inv in
-    let is-grh = group-here inv (sym c.is_group.ensures ∙ c.loop-carriers-test.true) in
+    let is-grh = group-here inv (sym c.is_group.ensures ∙ c.loop-counters-test.true) in
     record { file_len_bound = (c.requires.file_len_bound.0, here.here, is-grh, rw here.left c.requires.file_len_bound.2, begun, (done inv).0.few c.requires.file_len_bound.4); t_le_largest_tolerance = c.requires.t_le_largest_tolerance }
 
-pub loop-carriers-smaller : goal.loop-carriers-smaller
-loop-carriers-smaller c =
-    fewer-left c.loop-carriers.invariant c.count_group-one.result.next c.count_group-one.ensures.past_group
+pub loop-counters-smaller : goal.loop-counters-smaller
+loop-counters-smaller c =
+    fewer-left c.loop-counters.invariant c.count_group-one.result.next c.count_group-one.ensures.past_group
 
-pub loop-carriers-preserved : goal.loop-carriers-preserved
-loop-carriers-preserved c =
-    let inv = c.loop-carriers.invariant in
+pub loop-counters-preserved : goal.loop-counters-preserved
+loop-counters-preserved c =
+    let inv = c.loop-counters.invariant in
     let t = c.args.t in
     let counted = c.count_group-one.ensures in
-    let g = group_of (rest_at c.args.file.now c.loop-carriers.n.at) in
+    let g = group_of (rest_at c.args.file.now c.loop-counters.n.at) in
     one_more inv c.count_group-one.result.next counted.past_group (
       rw (joined-last (λ (h : Group). h.transactions) inv.0 g) (missing-then (done inv).0 counted.missing_on),
       λ tables e. part-more (group_verdicts tables t) (group_findings tables t) inv.0 g ((done inv).1 tables e) (counted.counted_group tables e),
     )
 
-pub shape_of-carriers : goal.shape_of-carriers
-shape_of-carriers c =
-    let begun : Begun c.loop-carriers.n.index c.loop-carriers.carriers c.loop-carriers.levels =
-    let (some, indexed) = c.requires.t_le_largest_tolerance.1 in
-    begun-on ((done c.loop-carriers.invariant).1 some indexed) c.requires.file_len_bound.3 in
-    (begun-long begun).0 ∙ sym (begun-long c.requires.file_len_bound.3).0
-
-pub shape_of-levels : goal.shape_of-levels
-shape_of-levels c =
-    let begun : Begun c.loop-carriers.n.index c.loop-carriers.carriers c.loop-carriers.levels =
-    let (some, indexed) = c.requires.t_le_largest_tolerance.1 in
-    begun-on ((done c.loop-carriers.invariant).1 some indexed) c.requires.file_len_bound.3 in
-    (begun-long begun).1 ∙ sym (begun-long c.requires.file_len_bound.3).1
-
 pub returns : goal.returns
 returns c =
-    let inv = c.loop-carriers.invariant in
-    let no-group = sym c.is_group.ensures ∙ c.loop-carriers-test.false in
+    let inv = c.loop-counters.invariant in
+    let no-group = sym c.is_group.ensures ∙ c.loop-counters-test.false in
     record { past_groups = past_all inv no-group; missing_on = (all_done inv no-group).0; counted_groups = (all_done inv no-group).1 }

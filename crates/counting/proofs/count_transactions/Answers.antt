@@ -22,7 +22,7 @@ loop-p-init c =
 -- ---- one transaction more
 pub count_transaction-one-requires : goal.count_transaction-one-requires
 count_transaction-one-requires c =
-    let begun : Begun c.loop-p.p.index c.loop-p.carriers c.loop-p.levels =
+    let begun : Begun c.loop-p.p.index c.loop-p.counters.findings c.loop-p.counters.levels =
     let (some, indexed) = c.requires.t_le_largest_tolerance.1 in
     begun-on ((done c.loop-p.invariant).1 some indexed) c.requires.file_len_bound.3 in
     let inv = c.loop-p.invariant in
@@ -61,24 +61,10 @@ loop-p-preserved c =
     let counted = c.count_transaction-one.ensures in
     let x = front_of (rest_at args.file.now c.loop-p.p.at) in
     one_more inv c.count_transaction-one.result.passed c.loop-p-test.true counted.past_transaction (
-      missing-then (done inv).0 (missing-one x ended counted.total_value.0 counted.total_value.1 with.ensures.value with.ensures.by_index),
+      missing-then (done inv).0 (missing-one x ended counted.total_value.0 counted.total_value.1 with.ensures.value with.ensures.within),
       λ tables e. part-more (transaction_verdicts tables args.t args.named.now) (transaction_findings tables args.t args.named.now) (xs inv) x
           ((done inv).1 tables e) (counted.counted_transaction tables e),
     )
-
-pub shape_of-carriers : goal.shape_of-carriers
-shape_of-carriers c =
-    let begun : Begun c.loop-p.p.index c.loop-p.carriers c.loop-p.levels =
-    let (some, indexed) = c.requires.t_le_largest_tolerance.1 in
-    begun-on ((done c.loop-p.invariant).1 some indexed) c.requires.file_len_bound.3 in
-    (begun-long begun).0 ∙ sym (begun-long c.requires.file_len_bound.3).0
-
-pub shape_of-levels : goal.shape_of-levels
-shape_of-levels c =
-    let begun : Begun c.loop-p.p.index c.loop-p.carriers c.loop-p.levels =
-    let (some, indexed) = c.requires.t_le_largest_tolerance.1 in
-    begun-on ((done c.loop-p.invariant).1 some indexed) c.requires.file_len_bound.3 in
-    (begun-long begun).1 ∙ sym (begun-long c.requires.file_len_bound.3).1
 
 pub returns : goal.returns
 returns c =

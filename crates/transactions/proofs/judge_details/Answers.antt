@@ -38,43 +38,13 @@ row_at-row-requires c =
 
 pub shape_of-verdicts-then-row-searched : goal.shape_of-verdicts-then-row-searched
 shape_of-verdicts-then-row-searched c =
-    let some : Prepared c.args.slots.now =
-    c.requires.prepared in
-    let done-so-far : DoneDetails c.args.purpose some.0 c.args.first c.loop-rejects.w.index (ds c.loop-rejects.invariant) c.loop-rejects.rejects c.args.verdicts.now c.args.findings.now c.args.carriers.now c.args.levels.now c.loop-rejects.verdicts c.loop-rejects.findings c.loop-rejects.carriers c.loop-rejects.levels =
-    done c.loop-rejects.invariant some.0 some.1 in
-    let lengths : (length c.loop-rejects.verdicts ≡ length c.args.verdicts.now) × (length c.loop-rejects.findings ≡ length c.args.findings.now) × (length c.loop-rejects.carriers ≡ length c.args.carriers.now) × (length c.loop-rejects.levels ≡ length c.args.levels.now) =
-    same-lengths done-so-far _ c.requires.file_len_bound.3 in
-    lengths.0
+    let some = c.requires.prepared in
+    (same-lengths (done c.loop-rejects.invariant some.0 some.1) _ c.requires.file_len_bound.3).0
 
 pub shape_of-findings-then-row-searched : goal.shape_of-findings-then-row-searched
 shape_of-findings-then-row-searched c =
-    let some : Prepared c.args.slots.now =
-    c.requires.prepared in
-    let done-so-far : DoneDetails c.args.purpose some.0 c.args.first c.loop-rejects.w.index (ds c.loop-rejects.invariant) c.loop-rejects.rejects c.args.verdicts.now c.args.findings.now c.args.carriers.now c.args.levels.now c.loop-rejects.verdicts c.loop-rejects.findings c.loop-rejects.carriers c.loop-rejects.levels =
-    done c.loop-rejects.invariant some.0 some.1 in
-    let lengths : (length c.loop-rejects.verdicts ≡ length c.args.verdicts.now) × (length c.loop-rejects.findings ≡ length c.args.findings.now) × (length c.loop-rejects.carriers ≡ length c.args.carriers.now) × (length c.loop-rejects.levels ≡ length c.args.levels.now) =
-    same-lengths done-so-far _ c.requires.file_len_bound.3 in
-    lengths.1
-
-pub shape_of-carriers-then-row-searched : goal.shape_of-carriers-then-row-searched
-shape_of-carriers-then-row-searched c =
-    let some : Prepared c.args.slots.now =
-    c.requires.prepared in
-    let done-so-far : DoneDetails c.args.purpose some.0 c.args.first c.loop-rejects.w.index (ds c.loop-rejects.invariant) c.loop-rejects.rejects c.args.verdicts.now c.args.findings.now c.args.carriers.now c.args.levels.now c.loop-rejects.verdicts c.loop-rejects.findings c.loop-rejects.carriers c.loop-rejects.levels =
-    done c.loop-rejects.invariant some.0 some.1 in
-    let lengths : (length c.loop-rejects.verdicts ≡ length c.args.verdicts.now) × (length c.loop-rejects.findings ≡ length c.args.findings.now) × (length c.loop-rejects.carriers ≡ length c.args.carriers.now) × (length c.loop-rejects.levels ≡ length c.args.levels.now) =
-    same-lengths done-so-far _ c.requires.file_len_bound.3 in
-    lengths.2
-
-pub shape_of-levels-then-row-searched : goal.shape_of-levels-then-row-searched
-shape_of-levels-then-row-searched c =
-    let some : Prepared c.args.slots.now =
-    c.requires.prepared in
-    let done-so-far : DoneDetails c.args.purpose some.0 c.args.first c.loop-rejects.w.index (ds c.loop-rejects.invariant) c.loop-rejects.rejects c.args.verdicts.now c.args.findings.now c.args.carriers.now c.args.levels.now c.loop-rejects.verdicts c.loop-rejects.findings c.loop-rejects.carriers c.loop-rejects.levels =
-    done c.loop-rejects.invariant some.0 some.1 in
-    let lengths : (length c.loop-rejects.verdicts ≡ length c.args.verdicts.now) × (length c.loop-rejects.findings ≡ length c.args.findings.now) × (length c.loop-rejects.carriers ≡ length c.args.carriers.now) × (length c.loop-rejects.levels ≡ length c.args.levels.now) =
-    same-lengths done-so-far _ c.requires.file_len_bound.3 in
-    lengths.3
+    let some = c.requires.prepared in
+    (same-lengths (done c.loop-rejects.invariant some.0 some.1) _ c.requires.file_len_bound.3).1
 
 pub returns-then-row-searched : goal.returns-then-row-searched
 returns-then-row-searched c =
@@ -96,24 +66,17 @@ judge_detail-s-requires c =
 
 pub write-requires : goal.write-requires
 write-requires c =
-    let some : Prepared c.args.slots.now =
-    c.requires.prepared in
-    let done-so-far : DoneDetails c.args.purpose some.0 c.args.first c.loop-rejects.w.index (ds c.loop-rejects.invariant) c.loop-rejects.rejects c.args.verdicts.now c.args.findings.now c.args.carriers.now c.args.levels.now c.loop-rejects.verdicts c.loop-rejects.findings c.loop-rejects.carriers c.loop-rejects.levels =
-    done c.loop-rejects.invariant some.0 some.1 in
-    writes done-so-far _ c.requires.file_len_bound.3 (entry-room (position c.loop-rejects.invariant) refl)
+    let inv = c.loop-rejects.invariant in
+    let some = c.requires.prepared in
+    writes (done inv some.0 some.1) _ c.requires.file_len_bound.3 (entry-room (position inv) refl)
 
 pub tell-rejects-requires : goal.tell-rejects-requires
 tell-rejects-requires c =
-    let some : Prepared c.args.slots.now =
-    c.requires.prepared in
-    let done-so-far : DoneDetails c.args.purpose some.0 c.args.first c.loop-rejects.w.index (ds c.loop-rejects.invariant) c.loop-rejects.rejects c.args.verdicts.now c.args.findings.now c.args.carriers.now c.args.levels.now c.loop-rejects.verdicts c.loop-rejects.findings c.loop-rejects.carriers c.loop-rejects.levels =
-    done c.loop-rejects.invariant some.0 some.1 in
-    let turned : (tables : Tables) → Indexed tables c.args.slots.now → Turned tables (ds c.loop-rejects.invariant) (r c.loop-rejects.invariant) c.judge_detail-s.result =
-    λ tables e. let inv = c.loop-rejects.invariant in (c.judge_detail-s.ensures.turned tables (ds inv) e (known inv) (tallied inv)).0 in
     let inv = c.loop-rejects.invariant in
-    let level = (turned some.0 some.1).judged.level in
-    tells done-so-far _ c.requires.file_len_bound.3 (omega (arith, among-all inv, c.requires.file_len_bound.2))
-    (rw level (omega (arith, own-worst some.0 (ds inv) (r inv))))
+    let some = c.requires.prepared in
+    let turned = (c.judge_detail-s.ensures.turned some.0 (ds inv) some.1 (known inv) (tallied inv)).0 in
+    tells (done inv some.0 some.1) _ c.requires.file_len_bound.3 (omega (arith, among-all inv, c.requires.file_len_bound.2))
+    (rw turned.judged.level (omega (arith, own-worst some.0 (ds inv) (r inv))))
 
 pub loop-rejects-smaller : goal.loop-rejects-smaller
 loop-rejects-smaller c =
@@ -123,14 +86,12 @@ loop-rejects-smaller c =
 
 pub loop-rejects-preserved : goal.loop-rejects-preserved
 loop-rejects-preserved c =
-    let some : Prepared c.args.slots.now =
-    c.requires.prepared in
-    let turned : (tables : Tables) → Indexed tables c.args.slots.now → Turned tables (ds c.loop-rejects.invariant) (r c.loop-rejects.invariant) c.judge_detail-s.result =
-    λ tables e. let inv = c.loop-rejects.invariant in (c.judge_detail-s.ensures.turned tables (ds inv) e (known inv) (tallied inv)).0 in
     let inv = c.loop-rejects.invariant in
+    let some = c.requires.prepared in
+    let turned : (tables : Tables) → Indexed tables c.args.slots.now → _ = λ tables e. c.judge_detail-s.ensures.turned tables (ds inv) e (known inv) (tallied inv) in
     let (at, index) = c.judge_detail-s.ensures.at_value in
     one_more inv c.row_at-row.ensures (is-detail _ _ c.if-row-searched.false)
     c.judge_detail-s.result.walk at index
-    (turned some.0 some.1).known
-    (c.judge_detail-s.ensures.turned some.0 (ds inv) some.1 (known inv) (tallied inv)).1
-    (λ tables e. done_on (done inv tables e) index (turned tables e).judged c.write.ensures c.tell-rejects.ensures.value c.tell-rejects.ensures.told)
+    (turned some.0 some.1).0.known
+    (turned some.0 some.1).1
+    (λ tables e. done_on (done inv tables e) index (turned tables e).0.judged c.write.ensures c.tell-rejects.ensures.value c.tell-rejects.ensures.told)

@@ -11,7 +11,7 @@ abbrev pub invariant-loop-rejects : goal.invariant-loop-rejects
 invariant-loop-rejects l =
     Inv l.file (l.first + length (rest_at l.file l.start)) l.start
     (λ ds. (tables : Tables) → Indexed tables l.slots
-    → DoneDetails l.purpose tables l.first l.w.index ds l.rejects l.initial.verdicts l.initial.findings l.initial.carriers l.initial.levels l.verdicts l.findings l.carriers l.levels)
+    → DoneDetails l.purpose tables l.first l.w.index ds l.rejects l.initial.verdicts l.initial.findings l.initial.counters.findings l.initial.counters.levels l.verdicts l.findings l.counters.findings l.counters.levels)
     l.chains l.w
 
 abbrev pub decreases-loop-rejects : goal.decreases-loop-rejects

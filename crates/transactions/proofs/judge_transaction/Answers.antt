@@ -10,30 +10,25 @@ use Rattle.headers.specs.Headed.{Headed}
 use Rattle.buffers.proofs.Entries.{kept-v, kept-f}
 use Rattle.transactions.specs.Walk.{rest_at, tail_of, front_of, Position, PastDetails}
 use Rattle.transactions.proofs.Entries.{room-kept, entry-room}
-use Rattle.transactions.proofs.Sizes.{transaction-header, left_after, position-after, known-after}
-use Rattle.transactions.proofs.Fronts.{past-below, filled-whole}
+use Rattle.transactions.proofs.Levels.{standing}
+use Rattle.transactions.proofs.Fronts.{after-header, details-left, past-header, past-below, filled-whole}
 use Rattle.transactions.proofs.judge_transaction.Goals as goal
 
 pub judge_details-d-requires : goal.judge_details-d-requires
 judge_details-d-requires c =
-    let position : Position c.args.file.now (c.args.index + length (rest_at c.args.file.now c.args.at)) c.args.at c.args.index head (rest_at c.args.file.now c.args.at) =
-    record { here = c.requires.file_len_bound.1; left = refl } in
-    let inside = position-after transaction-header position refl c.requires.file_len_bound.2 _ refl in
+    let inside = after-header c.args.index c.requires.file_len_bound.1 c.requires.file_len_bound.2 in
     record { file_len_bound = (c.requires.file_len_bound.0, inside.here, rw inside.left c.requires.file_len_bound.3.few, rw inside.left c.requires.file_len_bound.3); prepared = c.requires.t_le_largest_tolerance.1 }
 
 -- ---- its header
 pub judge_header-h-requires : goal.judge_header-h-requires
 judge_header-h-requires c =
-    let position : Position c.args.file.now (c.args.index + length (rest_at c.args.file.now c.args.at)) c.args.at c.args.index head (rest_at c.args.file.now c.args.at) =
-    record { here = c.requires.file_len_bound.1; left = refl } in
-    let inside = position-after transaction-header position refl c.requires.file_len_bound.2 _ refl in
+    let inside = after-header c.args.index c.requires.file_len_bound.1 c.requires.file_len_bound.2 in
     let below = past-below (c.judge_details-d.ensures.past_details refl) (omega (arith, inside.left, c.requires.file_len_bound.3.few)) in
     record { file_len_bound = (c.requires.file_len_bound.0, c.requires.file_len_bound.1, c.requires.file_len_bound.2); t_le_largest_tolerance = (c.requires.t_le_largest_tolerance.0, below) }
 
 pub settle-requires : goal.settle-requires
 settle-requires c =
-    let position : Position c.args.file.now (c.args.index + length (rest_at c.args.file.now c.args.at)) c.args.at c.args.index head (rest_at c.args.file.now c.args.at) =
-    record { here = c.requires.file_len_bound.1; left = refl } in
+    let position = standing c.args.index c.requires.file_len_bound.1 in
     let some = c.requires.t_le_largest_tolerance.1 in
     entry-room position refl (room-kept (c.judge_details-d.ensures.done_details some.0 some.1).done.0 c.requires.file_len_bound.3)
 
@@ -50,28 +45,16 @@ slice_bounds-raise-start c =
 
 pub slice_bounds-raise-end : goal.slice_bounds-raise-end
 slice_bounds-raise-end c =
-    let position : Position c.args.file.now (c.args.index + length (rest_at c.args.file.now c.args.at)) c.args.at c.args.index head (rest_at c.args.file.now c.args.at) =
-    record { here = c.requires.file_len_bound.1; left = refl } in
-    let past : PastDetails c.args.file.now (c.args.index + length (rest_at c.args.file.now c.args.at)) (tail_of (rest_at c.args.file.now c.args.at)) c.judge_details-d.result =
-    known-after transaction-header position refl c.requires.file_len_bound.2 _ refl (λ k l. PastDetails c.args.file.now k l c.judge_details-d.result)
-    (c.judge_details-d.ensures.past_details refl) in
-    let headed : (tables : Tables) → Indexed tables c.args.slots.now → Headed tables c.args.t c.args.named.now (front_of (rest_at c.args.file.now c.args.at)) c.judge_header-h.result =
-    λ tables e. let known = past in
-    c.judge_header-h.ensures tables _ e known.known known.linked in
+    let past = past-header c.args.index c.requires.file_len_bound.1 c.requires.file_len_bound.2 (c.judge_details-d.ensures.past_details refl) in
+    let headed : (tables : Tables) → Indexed tables c.args.slots.now → _ = λ tables e. c.judge_header-h.ensures tables _ e past.known past.linked in
     let some = c.requires.t_le_largest_tolerance.1 in
     let room = room-kept (c.judge_details-d.ensures.done_details some.0 some.1).done.0 c.requires.file_len_bound.3 in
     omega (arith, past.position.left, room.in_v, kept-v (c.settle.ensures _ (headed some.0 some.1).set))
 
 pub returns : goal.returns
 returns c =
-    let position : Position c.args.file.now (c.args.index + length (rest_at c.args.file.now c.args.at)) c.args.at c.args.index head (rest_at c.args.file.now c.args.at) =
-    record { here = c.requires.file_len_bound.1; left = refl } in
-    let past : PastDetails c.args.file.now (c.args.index + length (rest_at c.args.file.now c.args.at)) (tail_of (rest_at c.args.file.now c.args.at)) c.judge_details-d.result =
-    known-after transaction-header position refl c.requires.file_len_bound.2 _ refl (λ k l. PastDetails c.args.file.now k l c.judge_details-d.result)
-    (c.judge_details-d.ensures.past_details refl) in
-    let headed : (tables : Tables) → Indexed tables c.args.slots.now → Headed tables c.args.t c.args.named.now (front_of (rest_at c.args.file.now c.args.at)) c.judge_header-h.result =
-    λ tables e. let known = past in
-    c.judge_header-h.ensures tables _ e known.known known.linked in
+    let past = past-header c.args.index c.requires.file_len_bound.1 c.requires.file_len_bound.2 (c.judge_details-d.ensures.past_details refl) in
+    let headed : (tables : Tables) → Indexed tables c.args.slots.now → _ = λ tables e. c.judge_header-h.ensures tables _ e past.known past.linked in
     let some = c.requires.t_le_largest_tolerance.1 in record {
       past_transaction = record {
         position = past.position;
@@ -79,7 +62,7 @@ returns c =
         stray = (headed some.0 some.1).stray;
       };
       filled_transaction = λ tables e. filled-whole tables c.args.t c.args.named.now (front_of (rest_at c.args.file.now c.args.at))
-          (rw (left_after transaction-header position refl c.requires.file_len_bound.2 _ refl) at (c.judge_details-d.ensures.done_details tables e))
+          (rw (details-left c.args.index c.requires.file_len_bound.1 c.requires.file_len_bound.2) at (c.judge_details-d.ensures.done_details tables e))
           (headed tables e) (c.settle.ensures _ (headed tables e).set) c.least-least.ensures
           c.raise.ensures;
     }

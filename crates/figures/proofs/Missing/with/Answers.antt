@@ -7,4 +7,8 @@ returns c =
     let g = c.args in
     let pr = c.with-self.ensures in
     let mr = c.with-self-2.ensures in
-    let sr = c.with-self-3.ensures in record { value = λ xs x. missing-more xs x g.self g.total pr.by_index mr.by_index sr.by_index; by_index = λ k n w u one. (pr.by_index_2 k n w.0 u.0 one, mr.by_index_2 k n w.1 u.1 one, sr.by_index_2 k n w.2 u.2 one) }
+    let sr = c.with-self-3.ensures in
+    record {
+      value = λ xs x. missing-more xs x g.self g.total pr.value mr.value sr.value;
+      within = λ k n w u one. (pr.within k n w.0 u.0 one, mr.within k n w.1 u.1 one, sr.within k n w.2 u.2 one);
+    }
