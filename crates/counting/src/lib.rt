@@ -9,7 +9,6 @@ ghost use Rattle.format.specs.Checks.{cls};
 ghost use Rattle.format.specs.Structure.{most_bytes, most_records, first_record};
 ghost use Rattle.format.specs.Tree.{groups_in};
 ghost use Rattle.rules.specs.Tables.{Tables};
-ghost use Rattle.rules.specs.Values.{largest_tolerance};
 ghost use Rattle.rules.specs.Sheet.{sheet_tolerance};
 ghost use Rattle.tables.specs.Index.{Indexed};
 ghost use Rattle.structure.specs.Cursor.{Here};
@@ -24,6 +23,7 @@ use files::Next;
 use kinds::HEAD;
 use totals::Rights;
 use transactions::{Passed, Purpose};
+use values::Tolerance;
 
 // ---- a transaction
 
@@ -40,14 +40,14 @@ fn count_transaction(
     at: usize,
     index: usize,
     named: &[u8],
-    t: u64,
+    t: Tolerance,
     slots: &tables::Slots,
     counters: &mut Counters,
 ) -> Counted
     requires file_len_bound { (length file.now ≤ most_bytes) × Here file.now at head (rest_at file.now at)
         × (cls cwr22 (first_record (rest_at file.now at)) ≡ head) × (index + length (rest_at file.now at) ≤ most_records)
         × Begun index counters.old.findings counters.old.levels }
-    requires t_le_largest_tolerance { (t ≤ largest_tolerance) × Prepared slots.now }
+    requires prepared { Prepared slots.now }
     ensures past_transaction { PastTransaction named.now file.now (index + length (rest_at file.now at))
         (rest_at file.now at) result.passed }
     ensures total_value { (result.total ≡ whole_of (front_of (rest_at file.now at)))
@@ -97,14 +97,14 @@ fn count_transactions(
     start: usize,
     first: usize,
     named: &[u8],
-    t: u64,
+    t: Tolerance,
     slots: &tables::Slots,
     missing: Missing,
     counters: &mut Counters,
 ) -> Run
     requires file_len_bound { (length file.now ≤ most_bytes) × Here file.now start grh (rest_at file.now start)
         × (first + length (rest_at file.now start) ≤ most_records) × Begun first counters.old.findings counters.old.levels × WithinAll first missing }
-    requires t_le_largest_tolerance { (t ≤ largest_tolerance) × Prepared slots.now }
+    requires prepared { Prepared slots.now }
     ensures past_transactions { PastTransactions named.now file.now (first + length (rest_at file.now start))
         (rest_at file.now start) result.passed }
     ensures missing_on { MissingOn first result.passed.index (transactions_of (rest_at file.now start)) missing result.missing }
@@ -148,7 +148,7 @@ fn count_group(
     file: &[u8],
     at: usize,
     index: usize,
-    t: u64,
+    t: Tolerance,
     slots: &tables::Slots,
     missing: Missing,
     counters: &mut Counters,
@@ -156,7 +156,7 @@ fn count_group(
     requires file_len_bound { (length file.now ≤ most_bytes) × Here file.now at grt (rest_at file.now at)
         × (cls cwr22 (first_record (rest_at file.now at)) ≡ grh) × (index + length (rest_at file.now at) ≤ most_records)
         × Begun index counters.old.findings counters.old.levels × WithinAll index missing }
-    requires t_le_largest_tolerance { (t ≤ largest_tolerance) × Prepared slots.now }
+    requires prepared { Prepared slots.now }
     ensures past_group { PastGroup file.now (index + length (rest_at file.now at)) (rest_at file.now at) result.next }
     ensures missing_on { MissingOn index result.next.index (group_of (rest_at file.now at)).transactions missing result.missing }
     ensures counted_group { (tables : Tables) → Indexed tables slots.now
@@ -187,14 +187,14 @@ fn count_groups(
     file: &[u8],
     start: usize,
     first: usize,
-    t: u64,
+    t: Tolerance,
     slots: &tables::Slots,
     missing: Missing,
     counters: &mut Counters,
 ) -> Section
     requires file_len_bound { (length file.now ≤ most_bytes) × Here file.now start hdr (rest_at file.now start)
         × (first + length (rest_at file.now start) ≤ most_records) × Begun first counters.old.findings counters.old.levels × WithinAll first missing }
-    requires t_le_largest_tolerance { (t ≤ largest_tolerance) × Prepared slots.now }
+    requires prepared { Prepared slots.now }
     ensures past_groups { PastGroups file.now (first + length (rest_at file.now start)) result.next }
     ensures missing_on { MissingOn first result.next.index (transactions_among (groups_in cwr22 (rest_at file.now start))) missing result.missing }
     ensures counted_groups { (tables : Tables) → Indexed tables slots.now
@@ -206,7 +206,7 @@ fn count_groups(
         index: first,
     };
     let mut m = missing;
-    while files::is_group(file, n.at) {
+    'groups: while files::is_group(file, n.at) {
         let one = count_group(file, n.at, n.index, t, slots, m, counters);
         n = one.next;
         m = one.missing;
@@ -218,10 +218,10 @@ fn count_groups(
 }
 
 // All records of a file.
-pub fn count_file(file: &[u8], t: u64, slots: &tables::Slots) -> Figures
+pub fn count_file(file: &[u8], t: Tolerance, slots: &tables::Slots) -> Figures
     requires file_len_bound { (length file.now ≤ most_bytes) × Here file.now 0 unknown (rest_at file.now 0)
         × (length (rest_at file.now 0) ≤ most_records) }
-    requires t_le_largest_tolerance { (t ≤ largest_tolerance) × Prepared slots.now }
+    requires prepared { Prepared slots.now }
     ensures within_all { WithinAll most_records result.missing }
     ensures figures_of { (tables : Tables) → Indexed tables slots.now → t ≡ sheet_tolerance
         → FiguresOf (record { tables = tables; file = file.now }) result }

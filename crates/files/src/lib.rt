@@ -8,9 +8,9 @@ ghost use Rattle.format.specs.Cwr22.{cwr22};
 ghost use Rattle.format.specs.Checks.{cls};
 ghost use Rattle.format.specs.Structure.{most_bytes, first_record};
 ghost use Rattle.format.specs.Tree.{groups_in};
-ghost use Rattle.rules.specs.Tables.{Tables, language_size, society_size, category_size, right_table, tables_of};
-ghost use Rattle.rules.specs.Values.{largest_tolerance};
+ghost use Rattle.rules.specs.Tables.{Tables, language_size, society_size, category_size, right_table};
 ghost use Rattle.tables.specs.Index.{Indexed};
+ghost use Rattle.tables.specs.Which.{lent_in};
 ghost use Rattle.structure.specs.Cursor.{Here};
 ghost use Rattle.transactions.specs.Walk.{rest_at, Prepared, Room, Filled};
 ghost use Rattle.files.specs.Levels.{transactions_of, group_of, PastTransactions, PastGroup, PastGroups};
@@ -19,6 +19,7 @@ ghost use Rattle.files.specs.Levels.{FilledTransactions, FilledGroup, FilledGrou
 use findings::GR;
 use kinds::HEAD;
 use transactions::Passed;
+use values::Tolerance;
 
 // Before a record of that number, which begins at that byte.
 #[derive(Clone, Copy)]
@@ -42,14 +43,14 @@ fn judge_transactions(
     start: usize,
     first: usize,
     named: &[u8],
-    t: u64,
+    t: Tolerance,
     slots: &tables::Slots,
     verdicts: &mut [u8],
     findings: &mut [u8],
 ) -> Passed
     requires file_len_bound { (length file.now ≤ most_bytes) × Here file.now start grh (rest_at file.now start)
         × Room (first + length (rest_at file.now start)) (length verdicts.old) (length findings.old) }
-    requires t_le_largest_tolerance { (t ≤ largest_tolerance) × Prepared slots.now }
+    requires prepared { Prepared slots.now }
     ensures past_transactions { PastTransactions named.now file.now (first + length (rest_at file.now start))
         (rest_at file.now start) result }
     ensures filled_transactions { (tables : Tables) → Indexed tables slots.now
@@ -81,7 +82,7 @@ fn judge_group(
     file: &[u8],
     at: usize,
     index: usize,
-    t: u64,
+    t: Tolerance,
     slots: &tables::Slots,
     verdicts: &mut [u8],
     findings: &mut [u8],
@@ -89,7 +90,7 @@ fn judge_group(
     requires file_len_bound { (length file.now ≤ most_bytes) × Here file.now at grt (rest_at file.now at)
         × (cls cwr22 (first_record (rest_at file.now at)) ≡ grh)
         × Room (index + length (rest_at file.now at)) (length verdicts.old) (length findings.old) }
-    requires t_le_largest_tolerance { (t ≤ largest_tolerance) × Prepared slots.now }
+    requires prepared { Prepared slots.now }
     ensures past_group { PastGroup file.now (index + length (rest_at file.now at)) (rest_at file.now at) result }
     ensures filled_group { (tables : Tables) → Indexed tables slots.now
         → FilledGroup tables t index result.index (group_of (rest_at file.now at))
@@ -133,14 +134,14 @@ fn judge_groups(
     file: &[u8],
     start: usize,
     first: usize,
-    t: u64,
+    t: Tolerance,
     slots: &tables::Slots,
     verdicts: &mut [u8],
     findings: &mut [u8],
 ) -> Next
     requires file_len_bound { (length file.now ≤ most_bytes) × Here file.now start hdr (rest_at file.now start)
         × Room (first + length (rest_at file.now start)) (length verdicts.old) (length findings.old) }
-    requires t_le_largest_tolerance { (t ≤ largest_tolerance) × Prepared slots.now }
+    requires prepared { Prepared slots.now }
     ensures past_groups { PastGroups file.now (first + length (rest_at file.now start)) result }
     ensures filled_groups { (tables : Tables) → Indexed tables slots.now
         → FilledGroups tables t first result.index (groups_in cwr22 (rest_at file.now start))
@@ -150,7 +151,7 @@ fn judge_groups(
         at: start,
         index: first,
     };
-    while is_group(file, n.at) {
+    'groups: while is_group(file, n.at) {
         n = judge_group(file, n.at, n.index, t, slots, verdicts, findings);
     }
     n
@@ -159,14 +160,14 @@ fn judge_groups(
 // All records of a file.
 pub fn judge_file(
     file: &[u8],
-    t: u64,
+    t: Tolerance,
     slots: &tables::Slots,
     verdicts: &mut [u8],
     findings: &mut [u8],
 )
     requires file_len_bound { (length file.now ≤ most_bytes) × Here file.now 0 unknown (rest_at file.now 0)
         × Room (length (rest_at file.now 0)) (length verdicts.old) (length findings.old) }
-    requires t_le_largest_tolerance { (t ≤ largest_tolerance) × Prepared slots.now }
+    requires prepared { Prepared slots.now }
     ensures { (tables : Tables) → Indexed tables slots.now
         → WrittenFile tables t file.now
         verdicts.old findings.old verdicts.new findings.new }
@@ -187,21 +188,18 @@ pub fn judge_file(
 // The same with the tables as they are lent: they are indexed once, in slots on the stack.
 pub fn judge(
     file: &[u8],
-    languages: &[u8],
-    societies: &[u8],
-    categories: &[u8],
-    tolerance: u64,
+    lent: tables::Tables,
+    tolerance: Tolerance,
     verdicts: &mut [u8],
     findings: &mut [u8],
 )
     requires file_len_bound { (length file.now ≤ most_bytes) × Here file.now 0 unknown (rest_at file.now 0)
         × Room (length (rest_at file.now 0)) (length verdicts.old) (length findings.old) }
-    requires tolerance_le_largest_tolerance { (tolerance ≤ largest_tolerance) × (right_table language_size languages.now ≡ true)
-        × (right_table society_size societies.now ≡ true) × (right_table category_size categories.now ≡ true) }
-    ensures { WrittenFile (tables_of languages.now societies.now categories.now)
-        tolerance file.now verdicts.old findings.old verdicts.new findings.new }
+    requires right { (right_table language_size lent.languages.now ≡ true) × (right_table society_size lent.societies.now ≡ true)
+        × (right_table category_size lent.categories.now ≡ true) }
+    ensures { WrittenFile (lent_in lent.entry) tolerance file.now verdicts.old findings.old verdicts.new findings.new }
 {
     let mut slots = [0u32; tables::SLOTS];
-    tables::index(languages, societies, categories, &mut slots);
+    lent.index(&mut slots);
     judge_file(file, tolerance, &slots, verdicts, findings);
 }

@@ -8,7 +8,6 @@ ghost use Rattle.format.specs.Cwr22.{cwr22};
 ghost use Rattle.format.specs.Checks.{cls};
 ghost use Rattle.format.specs.Structure.{most_bytes, most_records, first_record};
 ghost use Rattle.rules.specs.Tables.{Tables};
-ghost use Rattle.rules.specs.Values.{largest_tolerance};
 ghost use Rattle.rules.specs.Records.{any};
 ghost use Rattle.rules.specs.Works.{named_type, transaction_findings};
 ghost use Rattle.rules.specs.Verdicts.{joined};
@@ -21,60 +20,50 @@ ghost use Rattle.files.specs.Levels.{transactions_of, group_of};
 ghost use Rattle.search.specs.Levels.{PastCleanTransaction, PastCleanGroup, is_grave_transaction};
 ghost use Rattle.search.specs.Levels.{sets_of, sets_of_group, first_grave, from, in_group, in_file};
 
+use figures::Counters;
 use findings::TR;
 use kinds::HEAD;
 use transactions::{Passed, Purpose};
+use values::Tolerance;
 
-// In a transaction: a record of its own has such a finding, or none has, and the walk has passed it.
-#[derive(Clone, Copy)]
-pub enum InTransaction {
-    Grave,
-    Clean(Passed),
-}
-
-// One transaction, whose header stands here and is that record of the file, in a group whose GRH names that type.
+// One transaction, whose header stands here and is that record of the file, in a group whose GRH names that type: past it, or None where
+// a record of its own has such a finding.
 fn search_transaction(
     file: &[u8],
     at: usize,
     index: usize,
     named: &[u8],
-    t: u64,
+    t: Tolerance,
     slots: &tables::Slots,
-) -> InTransaction
+) -> Option<Passed>
     requires file_len_bound { (length file.now ≤ most_bytes) × Here file.now at head (rest_at file.now at)
         × (cls cwr22 (first_record (rest_at file.now at)) ≡ head) × (index + length (rest_at file.now at) ≤ most_records) }
-    requires t_le_largest_tolerance { (t ≤ largest_tolerance) × Prepared slots.now }
+    requires prepared { Prepared slots.now }
     ensures past_clean_transaction { PastCleanTransaction named.now file.now (index + length (rest_at file.now at))
         (rest_at file.now at) result }
     ensures result_value { (tables : Tables) → Indexed tables slots.now
         → is_grave_transaction result ≡ any is_grave (transaction_findings tables t named.now (front_of (rest_at file.now at))) }
 {
-    let mut no_verdicts: [u8; 1] = [0; 1];
-    let mut no_findings: [u8; 1] = [0; 1];
-    let mut no_carriers: [u64; 1] = [0; 1];
-    let mut no_levels: [u64; 1] = [0; 1];
+    let mut none = Counters::none();
     let d = transactions::judge_details(
         file,
         at + kinds::HEADER_LENGTH as usize + 2,
         index + 1,
         slots,
         Purpose::Search,
-        &mut no_verdicts[0..0],
-        &mut no_findings[0..0],
-        &mut no_carriers[0..0],
-        &mut no_levels[0..0],
+        &mut [],
+        &mut [],
+        &mut none,
     );
     if d.rejects {
-        return InTransaction::Grave;
+        return None;
     }
     let w = d.walk;
-    let y = w.tally;
-    let links = d.links;
-    let h = transactions::judge_header(file, at, named, t, slots, y, links);
+    let h = transactions::judge_header(file, at, named, t, slots, w.tally, d.links);
     if h.level >= TR {
-        return InTransaction::Grave;
+        return None;
     }
-    InTransaction::Clean(Passed {
+    Some(Passed {
         at: w.at,
         index: w.index,
         class: d.class,
@@ -82,27 +71,27 @@ fn search_transaction(
     })
 }
 
-// In a group: the number of its first such transaction; or it has none, the walk has passed its transactions, and the next one of the file
-// has that number.
+// Past the transactions of a group, none of which has such a finding; the next one of the file has that number.
 #[derive(Clone, Copy)]
-pub enum InGroup {
-    At(usize),
-    Clean(Passed, usize),
+pub struct Clean {
+    pub passed: Passed,
+    pub next: usize,
 }
 
-// The transactions of a group, after its GRH, which names that type; the first of them has that number.
+// The transactions of a group, after its GRH, which names that type; the first of them has that number. Where one
+// has such a finding, its number.
 fn search_transactions(
     file: &[u8],
     start: usize,
     first: usize,
     named: &[u8],
-    t: u64,
+    t: Tolerance,
     slots: &tables::Slots,
     number: usize,
-) -> InGroup
+) -> Result<Clean, usize>
     requires file_len_bound { (length file.now ≤ most_bytes) × Here file.now start grh (rest_at file.now start)
         × (first + length (rest_at file.now start) ≤ most_records) × (number ≤ first) }
-    requires t_le_largest_tolerance { (t ≤ largest_tolerance) × Prepared slots.now }
+    requires prepared { Prepared slots.now }
     ensures past_clean_group { PastCleanGroup named.now file.now (first + length (rest_at file.now start)) number
         (rest_at file.now start) result }
     ensures result_value { (tables : Tables) → Indexed tables slots.now
@@ -116,9 +105,8 @@ fn search_transactions(
     };
     let mut k = number;
     while p.class == HEAD {
-        let one = search_transaction(file, p.at, p.index, named, t, slots);
-        let InTransaction::Clean(q) = one else {
-            return InGroup::At(k);
+        let Some(q) = search_transaction(file, p.at, p.index, named, t, slots) else {
+            return Err(k);
         };
         p = Passed {
             at: q.at,
@@ -126,9 +114,9 @@ fn search_transactions(
             class: q.class,
             stray: p.stray | q.stray,
         };
-        k = k + 1;
+        k += 1;
     }
-    InGroup::Clean(p, k)
+    Ok(Clean { passed: p, next: k })
 }
 
 // One group, whose GRH stands here and is that record of the file; its first transaction has that number.
@@ -136,14 +124,14 @@ fn search_group(
     file: &[u8],
     at: usize,
     index: usize,
-    t: u64,
+    t: Tolerance,
     slots: &tables::Slots,
     number: usize,
-) -> InGroup
+) -> Result<Clean, usize>
     requires file_len_bound { (length file.now ≤ most_bytes) × Here file.now at grt (rest_at file.now at)
         × (cls cwr22 (first_record (rest_at file.now at)) ≡ grh)
         × (index + length (rest_at file.now at) ≤ most_records) × (number ≤ index) }
-    requires t_le_largest_tolerance { (t ≤ largest_tolerance) × Prepared slots.now }
+    requires prepared { Prepared slots.now }
     ensures past_clean_group { PastCleanGroup (named_type (first_record (rest_at file.now at))) file.now
         (index + length (rest_at file.now at)) number (tail_of (rest_at file.now at)) result }
     ensures result_value { (tables : Tables) → Indexed tables slots.now
@@ -155,18 +143,11 @@ fn search_group(
     search_transactions(file, end + 2, index + 1, named, t, slots, number)
 }
 
-// In a file: its first such transaction, or that it has none.
-#[derive(Clone, Copy)]
-pub enum Sought {
-    Nothing,
-    At(usize),
-}
-
-// The groups of a file.
-pub fn search(file: &[u8], t: u64, slots: &tables::Slots) -> Sought
+// The groups of a file: the number of its first such transaction.
+pub fn search(file: &[u8], t: Tolerance, slots: &tables::Slots) -> Option<usize>
     requires file_len_bound { (length file.now ≤ most_bytes) × Here file.now 0 unknown (rest_at file.now 0)
         × (length (rest_at file.now 0) ≤ most_records) }
-    requires t_le_largest_tolerance { (t ≤ largest_tolerance) × Prepared slots.now }
+    requires prepared { Prepared slots.now }
     ensures { (tables : Tables) → Indexed tables slots.now
         → in_file result ≡ first_grave (joined (sets_of_group tables t) (content file.now).groups) }
 {
@@ -175,18 +156,18 @@ pub fn search(file: &[u8], t: u64, slots: &tables::Slots) -> Sought
         index: 1,
     };
     let mut k = 0;
-    while files::is_group(file, n.at) {
-        let one = search_group(file, n.at, n.index, t, slots, k);
-        match one {
-            InGroup::At(found) => return Sought::At(found),
-            InGroup::Clean(p, more) => {
+    'groups: while files::is_group(file, n.at) {
+        match search_group(file, n.at, n.index, t, slots, k) {
+            Err(found) => return Some(found),
+            Ok(clean) => {
+                let p = clean.passed;
                 n = files::Next {
                     at: p.at + kinds::GRT_LENGTH as usize + 2,
                     index: p.index + 1,
                 };
-                k = more;
+                k = clean.next;
             }
         }
     }
-    Sought::Nothing
+    None
 }

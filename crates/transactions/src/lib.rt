@@ -10,7 +10,6 @@ ghost use Rattle.format.specs.Checks.{cls};
 ghost use Rattle.format.specs.Structure.{most_bytes, most_records, first_record};
 ghost use Rattle.format.specs.Tree.{span, is_detail};
 ghost use Rattle.rules.specs.Tables.{Tables};
-ghost use Rattle.rules.specs.Values.{largest_tolerance};
 ghost use Rattle.rules.specs.Findings.{verdict, TR as Level-as-TR};
 ghost use Rattle.tables.specs.Index.{Indexed};
 ghost use Rattle.kinds.specs.Rows.{type_of, row_for};
@@ -223,21 +222,21 @@ pub fn judge_header(
     file: &[u8],
     at: usize,
     named: &[u8],
-    t: u64,
+    t: Tolerance,
     slots: &tables::Slots,
     y: Tally,
     links: Links,
 ) -> Head
     requires file_len_bound { (length file.now ≤ most_bytes) × Here file.now at head (rest_at file.now at)
         × (cls cwr22 (first_record (rest_at file.now at)) ≡ head) }
-    requires t_le_largest_tolerance { (t ≤ largest_tolerance) × Below (2 ^ 60) y.totals }
+    requires below { Below (2 ^ 60) y.totals }
     ensures { (tables : Tables) (ds : List Bytes) → Indexed tables slots.now → Known y ds → Linked links ds
         → Headed tables t named.now (record { header = first_record (rest_at file.now at); details = ds }) result }
 {
     let end = at + kinds::HEADER_LENGTH as usize;
     let header = &file[at..end];
     let own = edits::header::judge(header, slots);
-    headers::judge(header, named, own, y, links, Tolerance { hundredths: t })
+    headers::judge(header, named, own, y, links, t)
 }
 
 // After a transaction: where the next record begins, its number and its class; whether the header has finding 0.
@@ -255,7 +254,7 @@ pub fn judge_transaction(
     at: usize,
     index: usize,
     named: &[u8],
-    t: u64,
+    t: Tolerance,
     slots: &tables::Slots,
     verdicts: &mut [u8],
     findings: &mut [u8],
@@ -263,7 +262,7 @@ pub fn judge_transaction(
     requires file_len_bound { (length file.now ≤ most_bytes) × Here file.now at head (rest_at file.now at)
         × (cls cwr22 (first_record (rest_at file.now at)) ≡ head)
         × Room (index + length (rest_at file.now at)) (length verdicts.old) (length findings.old) }
-    requires t_le_largest_tolerance { (t ≤ largest_tolerance) × Prepared slots.now }
+    requires prepared { Prepared slots.now }
     ensures past_transaction { PastTransaction named.now file.now (index + length (rest_at file.now at))
         (rest_at file.now at) result }
     ensures filled_transaction { (tables : Tables) → Indexed tables slots.now

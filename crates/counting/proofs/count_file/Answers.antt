@@ -24,7 +24,7 @@ count_groups-all-requires c =
         begun-none 1 c.none-counters.ensures,
         within_more (omega arith) c.none.ensures.1,
       );
-      t_le_largest_tolerance = c.requires.t_le_largest_tolerance;
+      prepared = c.requires.prepared;
     }
 
 pub overflow_add-n : goal.overflow_add-n
@@ -37,7 +37,7 @@ pub by_verdict-requires : goal.by_verdict-requires
 by_verdict-requires c =
     let few : c.count_groups-all.result.next.index + 1 ≤ most_records =
     omega (arith, c.count_groups-all.ensures.past_groups.position.left, (groups-here c.requires.file_len_bound.1).left, c.requires.file_len_bound.2) in
-    let (some, indexed) = c.requires.t_le_largest_tolerance.1 in
+    let (some, indexed) = c.requires.prepared in
     file-grows c.requires.file_len_bound.1 some c.args.t c.none-counters.ensures (c.count_groups-all.ensures.counted_groups some indexed) few
 
 pub returns : goal.returns

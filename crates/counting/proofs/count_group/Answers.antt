@@ -32,7 +32,7 @@ count_transactions-run-requires c =
         begun_more c.requires.file_len_bound.4 (omega arith),
         within_more (omega arith) c.requires.file_len_bound.5,
       );
-      t_le_largest_tolerance = c.requires.t_le_largest_tolerance;
+      prepared = c.requires.prepared;
     }
 
 -- ---- its levels
@@ -47,7 +47,7 @@ overflow_add-next c =
 -- the walk has gone on
 pub overflow_sub-next : goal.overflow_sub-next
 overflow_sub-next c =
-    let (some, indexed) = c.requires.t_le_largest_tolerance.1 in
+    let (some, indexed) = c.requires.prepared in
     omega (arith, (c.count_transactions-run.ensures.counted_transactions some indexed).end)
 
 pub settle_group-requires : goal.settle_group-requires
@@ -57,7 +57,7 @@ settle_group-requires c =
     let few : c.count_transactions-run.result.passed.index + 1 ≤ most_records =
     omega (arith, (past-group position c.requires.file_len_bound.2 past).position.left, c.requires.file_len_bound.3) in
     let rest = left_after group-header position refl c.requires.file_len_bound.2 _ refl in
-    let (some, indexed) = c.requires.t_le_largest_tolerance.1 in
+    let (some, indexed) = c.requires.prepared in
     let counted = rw rest at (c.count_transactions-run.ensures.counted_transactions some indexed) in
     group-grows some c.args.t _ (rest_at c.args.file.now c.args.at) c.requires.file_len_bound.4 counted few
 

@@ -12,34 +12,34 @@ use Rattle.counting.proofs.Shares.{missing-none, missing-then}
 use Rattle.counting.proofs.count_groups.Goals as goal
 
 -- ---- what is counted so far
-pub loop-counters-init : goal.loop-counters-init
-loop-counters-init c =
+pub groups-init : goal.groups-init
+groups-init c =
     begins (record { here = c.requires.file_len_bound.1; left = refl }) (missing-none _ _, λ tables e. part-start _ _ _)
 
 pub is_group-requires : goal.is_group-requires
-is_group-requires c = in-file c.loop-counters.invariant
+is_group-requires c = in-file c.groups.invariant
 
 -- ---- one group more
 pub count_group-one-requires : goal.count_group-one-requires
 count_group-one-requires c =
-    let begun : Begun c.loop-counters.n.index c.loop-counters.counters.findings c.loop-counters.counters.levels =
-    let (some, indexed) = c.requires.t_le_largest_tolerance.1 in
-    begun-on ((done c.loop-counters.invariant).1 some indexed) c.requires.file_len_bound.3 in
-    let inv = c.loop-counters.invariant in
+    let begun : Begun c.groups.n.index c.groups.counters.findings c.groups.counters.levels =
+    let (some, indexed) = c.requires.prepared in
+    begun-on ((done c.groups.invariant).1 some indexed) c.requires.file_len_bound.3 in
+    let inv = c.groups.invariant in
     let here = position inv in
-    let is-grh = group-here inv (sym c.is_group.ensures ∙ c.loop-counters-test.true) in
-    record { file_len_bound = (c.requires.file_len_bound.0, here.here, is-grh, rw here.left c.requires.file_len_bound.2, begun, (done inv).0.few c.requires.file_len_bound.4); t_le_largest_tolerance = c.requires.t_le_largest_tolerance }
+    let is-grh = group-here inv (sym c.is_group.ensures ∙ c.groups-test.true) in
+    record { file_len_bound = (c.requires.file_len_bound.0, here.here, is-grh, rw here.left c.requires.file_len_bound.2, begun, (done inv).0.few c.requires.file_len_bound.4); prepared = c.requires.prepared }
 
-pub loop-counters-smaller : goal.loop-counters-smaller
-loop-counters-smaller c =
-    fewer-left c.loop-counters.invariant c.count_group-one.result.next c.count_group-one.ensures.past_group
+pub groups-smaller : goal.groups-smaller
+groups-smaller c =
+    fewer-left c.groups.invariant c.count_group-one.result.next c.count_group-one.ensures.past_group
 
-pub loop-counters-preserved : goal.loop-counters-preserved
-loop-counters-preserved c =
-    let inv = c.loop-counters.invariant in
+pub groups-preserved : goal.groups-preserved
+groups-preserved c =
+    let inv = c.groups.invariant in
     let t = c.args.t in
     let counted = c.count_group-one.ensures in
-    let g = group_of (rest_at c.args.file.now c.loop-counters.n.at) in
+    let g = group_of (rest_at c.args.file.now c.groups.n.at) in
     one_more inv c.count_group-one.result.next counted.past_group (
       rw (joined-last (λ (h : Group). h.transactions) inv.0 g) (missing-then (done inv).0 counted.missing_on),
       λ tables e. part-more (group_verdicts tables t) (group_findings tables t) inv.0 g ((done inv).1 tables e) (counted.counted_group tables e),
@@ -47,6 +47,6 @@ loop-counters-preserved c =
 
 pub returns : goal.returns
 returns c =
-    let inv = c.loop-counters.invariant in
-    let no-group = sym c.is_group.ensures ∙ c.loop-counters-test.false in
+    let inv = c.groups.invariant in
+    let no-group = sym c.is_group.ensures ∙ c.groups-test.false in
     record { past_groups = past_all inv no-group; missing_on = (all_done inv no-group).0; counted_groups = (all_done inv no-group).1 }

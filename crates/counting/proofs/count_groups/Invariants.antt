@@ -7,11 +7,11 @@ use Rattle.files.proofs.Groups.{Inv}
 use Rattle.counting.specs.Levels.{transactions_among, MissingOn, CountedGroups}
 use Rattle.counting.proofs.count_groups.Given as goal
 
-abbrev pub invariant-loop-counters : goal.invariant-loop-counters
-invariant-loop-counters l =
+abbrev pub invariant-groups : goal.invariant-groups
+invariant-groups l =
     Inv l.file (l.first + length (rest_at l.file l.start)) l.start
     (λ gs. MissingOn l.first l.n.index (transactions_among gs) l.initial.m l.m
     × ((tables : Tables) → Indexed tables l.slots → CountedGroups tables l.t l.first l.n.index gs l.initial.counters.findings l.initial.counters.levels l.counters.findings l.counters.levels)) l.n
 
-abbrev pub decreases-loop-counters : goal.decreases-loop-counters
-decreases-loop-counters l = length (rest_at l.file l.n.at)
+abbrev pub decreases-groups : goal.decreases-groups
+decreases-groups l = length (rest_at l.file l.n.at)

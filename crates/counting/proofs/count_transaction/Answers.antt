@@ -18,7 +18,7 @@ use Rattle.counting.proofs.count_transaction.Goals as goal
 pub judge_details-d-requires : goal.judge_details-d-requires
 judge_details-d-requires c =
     let inside = after-header c.args.index c.requires.file_len_bound.1 c.requires.file_len_bound.2 in
-    record { file_len_bound = (c.requires.file_len_bound.0, inside.here, rw inside.left c.requires.file_len_bound.3, begun_more c.requires.file_len_bound.4 (omega arith)); prepared = c.requires.t_le_largest_tolerance.1 }
+    record { file_len_bound = (c.requires.file_len_bound.0, inside.here, rw inside.left c.requires.file_len_bound.3, begun_more c.requires.file_len_bound.4 (omega arith)); prepared = c.requires.prepared }
 
 pub judge_header-h-requires : goal.judge_header-h-requires
 judge_header-h-requires c =
@@ -27,7 +27,7 @@ judge_header-h-requires c =
     let below : Below (2 ^ 60) c.judge_details-d.result.walk.tally.totals =
     let here = after-header c.args.index c.requires.file_len_bound.1 c.requires.file_len_bound.2 in
     past-below past (omega (arith, here.left, ap length inside, c.requires.file_len_bound.3)) in
-    record { file_len_bound = (c.requires.file_len_bound.0, c.requires.file_len_bound.1, c.requires.file_len_bound.2); t_le_largest_tolerance = (c.requires.t_le_largest_tolerance.0, below) }
+    record { file_len_bound = (c.requires.file_len_bound.0, c.requires.file_len_bound.1, c.requires.file_len_bound.2); below = below }
 
 pub count-requires : goal.count-requires
 count-requires c =
@@ -36,7 +36,7 @@ count-requires c =
     omega (arith, past.position.left, c.requires.file_len_bound.3) in
     let inside = details-left c.args.index c.requires.file_len_bound.1 c.requires.file_len_bound.2 in
     let headed : (tables : Tables) → Indexed tables c.args.slots.now → _ = λ tables e. c.judge_header-h.ensures tables _ e past.known past.linked in
-    let (tables, e) = c.requires.t_le_largest_tolerance.1 in
+    let (tables, e) = c.requires.prepared in
     let details = rw inside at (c.judge_details-d.ensures.done_details tables e) in (
       few-before tables c.args.t c.args.named.now (front_of (rest_at c.args.file.now c.args.at)) c.requires.file_len_bound.4 details within,
       low tables c.args.t c.args.named.now (front_of (rest_at c.args.file.now c.args.at)) c.requires.file_len_bound.4 details (headed tables e),
@@ -46,7 +46,7 @@ count-requires c =
 -- the walk has gone on
 pub overflow_sub-w : goal.overflow_sub-w
 overflow_sub-w c =
-    let (tables, e) = c.requires.t_le_largest_tolerance.1 in
+    let (tables, e) = c.requires.prepared in
     omega (arith, (c.judge_details-d.ensures.done_details tables e).done.1)
 
 pub settle_transaction-requires : goal.settle_transaction-requires
@@ -56,7 +56,7 @@ settle_transaction-requires c =
     omega (arith, past.position.left, c.requires.file_len_bound.3) in
     let inside = details-left c.args.index c.requires.file_len_bound.1 c.requires.file_len_bound.2 in
     let headed : (tables : Tables) → Indexed tables c.args.slots.now → _ = λ tables e. c.judge_header-h.ensures tables _ e past.known past.linked in
-    let (tables, e) = c.requires.t_le_largest_tolerance.1 in
+    let (tables, e) = c.requires.prepared in
     transaction-grows tables c.args.t c.args.named.now (front_of (rest_at c.args.file.now c.args.at)) c.requires.file_len_bound.4
     (rw inside at (c.judge_details-d.ensures.done_details tables e)) (headed tables e) c.count.ensures within
 
@@ -74,7 +74,7 @@ returns c =
     let past = past-header c.args.index c.requires.file_len_bound.1 c.requires.file_len_bound.2 (c.judge_details-d.ensures.past_details refl) in
     let inside = details-left c.args.index c.requires.file_len_bound.1 c.requires.file_len_bound.2 in
     let headed : (tables : Tables) → Indexed tables c.args.slots.now → _ = λ tables e. c.judge_header-h.ensures tables _ e past.known past.linked in
-    let (some, indexed) = c.requires.t_le_largest_tolerance.1 in
+    let (some, indexed) = c.requires.prepared in
     let known = past.known in
     let x = front_of (rest_at c.args.file.now c.args.at) in record {
       past_transaction = record { position = past.position; class = past.class; stray = (headed some indexed).stray };

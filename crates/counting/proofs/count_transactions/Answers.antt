@@ -23,11 +23,11 @@ loop-p-init c =
 pub count_transaction-one-requires : goal.count_transaction-one-requires
 count_transaction-one-requires c =
     let begun : Begun c.loop-p.p.index c.loop-p.counters.findings c.loop-p.counters.levels =
-    let (some, indexed) = c.requires.t_le_largest_tolerance.1 in
+    let (some, indexed) = c.requires.prepared in
     begun-on ((done c.loop-p.invariant).1 some indexed) c.requires.file_len_bound.3 in
     let inv = c.loop-p.invariant in
     let here = position inv in
-    record { file_len_bound = (c.requires.file_len_bound.0, here.here, header-here inv c.loop-p-test.true, rw here.left c.requires.file_len_bound.2, begun); t_le_largest_tolerance = c.requires.t_le_largest_tolerance }
+    record { file_len_bound = (c.requires.file_len_bound.0, here.here, header-here inv c.loop-p-test.true, rw here.left c.requires.file_len_bound.2, begun); prepared = c.requires.prepared }
 
 pub with-m-requires : goal.with-m-requires
 with-m-requires c =
@@ -35,7 +35,7 @@ with-m-requires c =
     omega (arith, (position c.loop-p.invariant).left, c.requires.file_len_bound.2) in
     let ended : c.count_transaction-one.result.passed.index ≡ c.loop-p.p.index + suc (length (front_of (rest_at c.args.file.now c.loop-p.p.at)).details) =
     let args = c.args in
-    let (some, indexed) = c.requires.t_le_largest_tolerance.1 in
+    let (some, indexed) = c.requires.prepared in
     (c.count_transaction-one.ensures.counted_transaction some indexed).end
     ∙ ap (λ n. c.loop-p.p.index + n) (transaction-findings some args.t args.named.now _) in
     let few-then : c.count_transaction-one.result.passed.index ≤ most_records =
@@ -52,7 +52,7 @@ pub loop-p-preserved : goal.loop-p-preserved
 loop-p-preserved c =
     let ended : c.count_transaction-one.result.passed.index ≡ c.loop-p.p.index + suc (length (front_of (rest_at c.args.file.now c.loop-p.p.at)).details) =
     let args = c.args in
-    let (some, indexed) = c.requires.t_le_largest_tolerance.1 in
+    let (some, indexed) = c.requires.prepared in
     (c.count_transaction-one.ensures.counted_transaction some indexed).end
     ∙ ap (λ n. c.loop-p.p.index + n) (transaction-findings some args.t args.named.now _) in
     let with = c.with-m in

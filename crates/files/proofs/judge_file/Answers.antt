@@ -14,11 +14,11 @@ settle_control-requires c =
 pub judge_groups-n-requires : goal.judge_groups-n-requires
 judge_groups-n-requires c =
     let here = groups-here c.requires.file_len_bound.1 in
-    record { file_len_bound = (c.requires.file_len_bound.0, here.here, rw here.left (room-kept c.settle_control.ensures c.requires.file_len_bound.2)); t_le_largest_tolerance = c.requires.t_le_largest_tolerance }
+    record { file_len_bound = (c.requires.file_len_bound.0, here.here, rw here.left (room-kept c.settle_control.ensures c.requires.file_len_bound.2)); prepared = c.requires.prepared }
 
 pub settle_control-requires-2 : goal.settle_control-requires-2
 settle_control-requires-2 c =
-    let some = c.requires.t_le_largest_tolerance.1 in
+    let some = c.requires.prepared in
     let written = filled-then c.settle_control.ensures (c.judge_groups-n.ensures.filled_groups some.0 some.1) in
     entry-room c.judge_groups-n.ensures.past_groups.position refl
     (rw (groups-here c.requires.file_len_bound.1).left (room-kept written c.requires.file_len_bound.2))
@@ -30,10 +30,10 @@ returns c tables e =
 
 pub shape_of-verdicts : goal.shape_of-verdicts
 shape_of-verdicts c =
-    let some = c.requires.t_le_largest_tolerance.1 in
+    let some = c.requires.prepared in
     kept-v (returns c some.0 some.1)
 
 pub shape_of-findings : goal.shape_of-findings
 shape_of-findings c =
-    let some = c.requires.t_le_largest_tolerance.1 in
+    let some = c.requires.prepared in
     kept-f (returns c some.0 some.1)

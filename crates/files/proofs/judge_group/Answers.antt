@@ -8,6 +8,7 @@ use Rattle.rules.specs.Works.{named_type}
 use Rattle.buffers.proofs.Entries.{kept-v, kept-f}
 use Rattle.transactions.specs.Walk.{rest_at, tail_of, Position}
 use Rattle.transactions.proofs.Entries.{room-kept, entry-room, filled-then}
+use Rattle.transactions.proofs.Levels.{standing}
 use Rattle.transactions.proofs.Sizes.{group-header, left_after, position-after}
 use Rattle.files.specs.Levels.{PastTransactions}
 use Rattle.files.proofs.Groups.{opening-ends, opening-lent, past-inside, closing-ends, past-group, filled-group}
@@ -15,50 +16,43 @@ use Rattle.files.proofs.judge_group.Goals as goal
 
 pub slice_bounds-opening-end : goal.slice_bounds-opening-end
 slice_bounds-opening-end c =
-    let position : Position c.args.file.now (c.args.index + length (rest_at c.args.file.now c.args.at)) c.args.at c.args.index grt (rest_at c.args.file.now c.args.at) =
-    record { here = c.requires.file_len_bound.1; left = refl } in
+    let position = standing c.args.index c.requires.file_len_bound.1 in
     omega (arith, opening-ends position c.requires.file_len_bound.2)
 
 pub settle_control-requires : goal.settle_control-requires
 settle_control-requires c =
-    let position : Position c.args.file.now (c.args.index + length (rest_at c.args.file.now c.args.at)) c.args.at c.args.index grt (rest_at c.args.file.now c.args.at) =
-    record { here = c.requires.file_len_bound.1; left = refl } in
+    let position = standing c.args.index c.requires.file_len_bound.1 in
     entry-room position refl c.requires.file_len_bound.3
 
 pub judge_transactions-p-requires : goal.judge_transactions-p-requires
 judge_transactions-p-requires c =
-    let position : Position c.args.file.now (c.args.index + length (rest_at c.args.file.now c.args.at)) c.args.at c.args.index grt (rest_at c.args.file.now c.args.at) =
-    record { here = c.requires.file_len_bound.1; left = refl } in
+    let position = standing c.args.index c.requires.file_len_bound.1 in
     let here = position-after group-header position refl c.requires.file_len_bound.2 _ refl in
-    record { file_len_bound = (c.requires.file_len_bound.0, here.here, rw here.left (room-kept c.settle_control.ensures c.requires.file_len_bound.3)); t_le_largest_tolerance = c.requires.t_le_largest_tolerance }
+    record { file_len_bound = (c.requires.file_len_bound.0, here.here, rw here.left (room-kept c.settle_control.ensures c.requires.file_len_bound.3)); prepared = c.requires.prepared }
 
 pub settle_control-requires-2 : goal.settle_control-requires-2
 settle_control-requires-2 c =
-    let position : Position c.args.file.now (c.args.index + length (rest_at c.args.file.now c.args.at)) c.args.at c.args.index grt (rest_at c.args.file.now c.args.at) =
-    record { here = c.requires.file_len_bound.1; left = refl } in
-    let past : PastTransactions c.field-named.result.now c.args.file.now (c.args.index + length (rest_at c.args.file.now c.args.at)) (tail_of (rest_at c.args.file.now c.args.at)) c.judge_transactions-p.result =
-    past-inside position c.requires.file_len_bound.2 _ refl c.judge_transactions-p.ensures.past_transactions in
-    let some = c.requires.t_le_largest_tolerance.1 in
+    let position = standing c.args.index c.requires.file_len_bound.1 in
+    let past = past-inside position c.requires.file_len_bound.2 _ refl c.judge_transactions-p.ensures.past_transactions in
+    let some = c.requires.prepared in
     let written = filled-then c.settle_control.ensures (c.judge_transactions-p.ensures.filled_transactions some.0 some.1) in
     entry-room past.position refl (room-kept written c.requires.file_len_bound.3)
 
 pub overflow_add-e : goal.overflow_add-e
 overflow_add-e c =
-    let position : Position c.args.file.now (c.args.index + length (rest_at c.args.file.now c.args.at)) c.args.at c.args.index grt (rest_at c.args.file.now c.args.at) =
-    record { here = c.requires.file_len_bound.1; left = refl } in
-    let past : PastTransactions c.field-named.result.now c.args.file.now (c.args.index + length (rest_at c.args.file.now c.args.at)) (tail_of (rest_at c.args.file.now c.args.at)) c.judge_transactions-p.result =
-    past-inside position c.requires.file_len_bound.2 _ refl c.judge_transactions-p.ensures.past_transactions in
+    let position = standing c.args.index c.requires.file_len_bound.1 in
+    let past = past-inside position c.requires.file_len_bound.2 _ refl c.judge_transactions-p.ensures.past_transactions in
     omega (arith, past.position.left, c.requires.file_len_bound.3.few)
 
 -- ---- its verdicts raised
 pub slice_bounds-raise-count : goal.slice_bounds-raise-count
 slice_bounds-raise-count c =
-    let some = c.requires.t_le_largest_tolerance.1 in
+    let some = c.requires.prepared in
     omega (arith, (c.judge_transactions-p.ensures.filled_transactions some.0 some.1).end)
 
 pub slice_bounds-raise-start : goal.slice_bounds-raise-start
 slice_bounds-raise-start c =
-    let some = c.requires.t_le_largest_tolerance.1 in
+    let some = c.requires.prepared in
     omega (arith, (c.judge_transactions-p.ensures.filled_transactions some.0 some.1).end)
 
 pub slice_bounds-raise-end : goal.slice_bounds-raise-end
@@ -68,26 +62,20 @@ slice_bounds-raise-end c =
 
 pub overflow_add-result : goal.overflow_add-result
 overflow_add-result c =
-    let position : Position c.args.file.now (c.args.index + length (rest_at c.args.file.now c.args.at)) c.args.at c.args.index grt (rest_at c.args.file.now c.args.at) =
-    record { here = c.requires.file_len_bound.1; left = refl } in
-    let past : PastTransactions c.field-named.result.now c.args.file.now (c.args.index + length (rest_at c.args.file.now c.args.at)) (tail_of (rest_at c.args.file.now c.args.at)) c.judge_transactions-p.result =
-    past-inside position c.requires.file_len_bound.2 _ refl c.judge_transactions-p.ensures.past_transactions in
+    let position = standing c.args.index c.requires.file_len_bound.1 in
+    let past = past-inside position c.requires.file_len_bound.2 _ refl c.judge_transactions-p.ensures.past_transactions in
     omega (arith, closing-ends position c.requires.file_len_bound.2 past, c.requires.file_len_bound.0)
 
 pub overflow_add-result-2 : goal.overflow_add-result-2
 overflow_add-result-2 c =
-    let position : Position c.args.file.now (c.args.index + length (rest_at c.args.file.now c.args.at)) c.args.at c.args.index grt (rest_at c.args.file.now c.args.at) =
-    record { here = c.requires.file_len_bound.1; left = refl } in
-    let past : PastTransactions c.field-named.result.now c.args.file.now (c.args.index + length (rest_at c.args.file.now c.args.at)) (tail_of (rest_at c.args.file.now c.args.at)) c.judge_transactions-p.result =
-    past-inside position c.requires.file_len_bound.2 _ refl c.judge_transactions-p.ensures.past_transactions in
+    let position = standing c.args.index c.requires.file_len_bound.1 in
+    let past = past-inside position c.requires.file_len_bound.2 _ refl c.judge_transactions-p.ensures.past_transactions in
     omega (arith, closing-ends position c.requires.file_len_bound.2 past, c.requires.file_len_bound.0)
 
 pub returns : goal.returns
 returns c =
-    let position : Position c.args.file.now (c.args.index + length (rest_at c.args.file.now c.args.at)) c.args.at c.args.index grt (rest_at c.args.file.now c.args.at) =
-    record { here = c.requires.file_len_bound.1; left = refl } in
-    let past : PastTransactions c.field-named.result.now c.args.file.now (c.args.index + length (rest_at c.args.file.now c.args.at)) (tail_of (rest_at c.args.file.now c.args.at)) c.judge_transactions-p.result =
-    past-inside position c.requires.file_len_bound.2 _ refl c.judge_transactions-p.ensures.past_transactions in
+    let position = standing c.args.index c.requires.file_len_bound.1 in
+    let past = past-inside position c.requires.file_len_bound.2 _ refl c.judge_transactions-p.ensures.past_transactions in
     let is-grh = c.requires.file_len_bound.2 in
     let named = c.field-named.ensures.result_value ∙ ap named_type (opening-lent position is-grh _ refl) in record {
       past_group = past-group position is-grh past;
@@ -99,10 +87,10 @@ returns c =
 
 pub shape_of-verdicts : goal.shape_of-verdicts
 shape_of-verdicts c =
-    let some = c.requires.t_le_largest_tolerance.1 in
+    let some = c.requires.prepared in
     kept-v ((returns c).filled_group some.0 some.1).written
 
 pub shape_of-findings : goal.shape_of-findings
 shape_of-findings c =
-    let some = c.requires.t_le_largest_tolerance.1 in
+    let some = c.requires.prepared in
     kept-f ((returns c).filled_group some.0 some.1).written

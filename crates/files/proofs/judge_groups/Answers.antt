@@ -11,29 +11,29 @@ use Rattle.files.proofs.Entries.{filled-part}
 use Rattle.files.proofs.Groups.{begins, position, done, in-file, group-here, one_more, fewer-left, past_all, all_done}
 use Rattle.files.proofs.judge_groups.Goals as goal
 
-pub loop-verdicts-init : goal.loop-verdicts-init
-loop-verdicts-init c =
+pub groups-init : goal.groups-init
+groups-init c =
     begins (record { here = c.requires.file_len_bound.1; left = refl }) (λ tables e. filled_none c.requires.file_len_bound.2 (omega arith))
 
 pub is_group-requires : goal.is_group-requires
-is_group-requires c = in-file c.loop-verdicts.invariant
+is_group-requires c = in-file c.groups.invariant
 
 pub judge_group-n-requires : goal.judge_group-n-requires
 judge_group-n-requires c =
-    let room : Room (c.args.first + length (rest_at c.args.file.now c.args.start)) (length c.loop-verdicts.verdicts) (length c.loop-verdicts.findings) =
-    let some = c.requires.t_le_largest_tolerance.1 in
-    room-kept (done c.loop-verdicts.invariant some.0 some.1) c.requires.file_len_bound.2 in
-    let here = position c.loop-verdicts.invariant in
-    let is-grh = group-here c.loop-verdicts.invariant (sym c.is_group.ensures ∙ c.loop-verdicts-test.true) in
-    record { file_len_bound = (c.requires.file_len_bound.0, here.here, is-grh, rw here.left room); t_le_largest_tolerance = c.requires.t_le_largest_tolerance }
+    let room : Room (c.args.first + length (rest_at c.args.file.now c.args.start)) (length c.groups.verdicts) (length c.groups.findings) =
+    let some = c.requires.prepared in
+    room-kept (done c.groups.invariant some.0 some.1) c.requires.file_len_bound.2 in
+    let here = position c.groups.invariant in
+    let is-grh = group-here c.groups.invariant (sym c.is_group.ensures ∙ c.groups-test.true) in
+    record { file_len_bound = (c.requires.file_len_bound.0, here.here, is-grh, rw here.left room); prepared = c.requires.prepared }
 
-pub loop-verdicts-smaller : goal.loop-verdicts-smaller
-loop-verdicts-smaller c =
-    fewer-left c.loop-verdicts.invariant c.judge_group-n.result c.judge_group-n.ensures.past_group
+pub groups-smaller : goal.groups-smaller
+groups-smaller c =
+    fewer-left c.groups.invariant c.judge_group-n.result c.judge_group-n.ensures.past_group
 
-pub loop-verdicts-preserved : goal.loop-verdicts-preserved
-loop-verdicts-preserved c =
-    let inv = c.loop-verdicts.invariant in
+pub groups-preserved : goal.groups-preserved
+groups-preserved c =
+    let inv = c.groups.invariant in
     let t = c.args.t in
     one_more inv c.judge_group-n.result c.judge_group-n.ensures.past_group
     (λ tables e. filled-part (group_verdicts tables t) (group_findings tables t) inv.0 _ (done inv tables e)
@@ -41,16 +41,16 @@ loop-verdicts-preserved c =
 
 pub shape_of-verdicts : goal.shape_of-verdicts
 shape_of-verdicts c =
-    let some = c.requires.t_le_largest_tolerance.1 in
-    kept-v (done c.loop-verdicts.invariant some.0 some.1).written
+    let some = c.requires.prepared in
+    kept-v (done c.groups.invariant some.0 some.1).written
 
 pub shape_of-findings : goal.shape_of-findings
 shape_of-findings c =
-    let some = c.requires.t_le_largest_tolerance.1 in
-    kept-f (done c.loop-verdicts.invariant some.0 some.1).written
+    let some = c.requires.prepared in
+    kept-f (done c.groups.invariant some.0 some.1).written
 
 pub returns : goal.returns
 returns c =
-    let inv = c.loop-verdicts.invariant in
-    let no-group = sym c.is_group.ensures ∙ c.loop-verdicts-test.false in
+    let inv = c.groups.invariant in
+    let no-group = sym c.is_group.ensures ∙ c.groups-test.false in
     record { past_groups = past_all inv no-group; filled_groups = all_done inv no-group }

@@ -19,11 +19,11 @@ loop-p-init c =
 pub judge_transaction-q-requires : goal.judge_transaction-q-requires
 judge_transaction-q-requires c =
     let room : Room (c.args.first + length (rest_at c.args.file.now c.args.start)) (length c.loop-p.verdicts) (length c.loop-p.findings) =
-    let some = c.requires.t_le_largest_tolerance.1 in
+    let some = c.requires.prepared in
     room-kept (done c.loop-p.invariant some.0 some.1) c.requires.file_len_bound.2 in
     let inv = c.loop-p.invariant in
     let here = position inv in
-    record { file_len_bound = (c.requires.file_len_bound.0, here.here, header-here inv c.loop-p-test.true, rw here.left room); t_le_largest_tolerance = c.requires.t_le_largest_tolerance }
+    record { file_len_bound = (c.requires.file_len_bound.0, here.here, header-here inv c.loop-p-test.true, rw here.left room); prepared = c.requires.prepared }
 
 pub loop-p-smaller : goal.loop-p-smaller
 loop-p-smaller c =
@@ -41,12 +41,12 @@ loop-p-preserved c =
 
 pub shape_of-verdicts : goal.shape_of-verdicts
 shape_of-verdicts c =
-    let some = c.requires.t_le_largest_tolerance.1 in
+    let some = c.requires.prepared in
     kept-v (done c.loop-p.invariant some.0 some.1).written
 
 pub shape_of-findings : goal.shape_of-findings
 shape_of-findings c =
-    let some = c.requires.t_le_largest_tolerance.1 in
+    let some = c.requires.prepared in
     kept-f (done c.loop-p.invariant some.0 some.1).written
 
 pub returns : goal.returns

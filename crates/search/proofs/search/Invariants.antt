@@ -12,12 +12,12 @@ use Rattle.files.proofs.Groups.{Inv}
 use Rattle.search.specs.Levels.{sets_of_group}
 use Rattle.search.proofs.search.Given as goal
 
-abbrev pub invariant-loop-n : goal.invariant-loop-n
-invariant-loop-n l =
+abbrev pub invariant-groups : goal.invariant-groups
+invariant-groups l =
     Inv l.file (length (rest_at l.file 0)) 169
     (λ gs. (tables : Tables) → Indexed tables l.slots
     → (l.k ≡ length (joined (sets_of_group tables l.t) gs)) × (any (any is_grave) (joined (sets_of_group tables l.t) gs) ≡ false)) l.n
     × (l.k ≤ l.n.index)
 
-abbrev pub decreases-loop-n : goal.decreases-loop-n
-decreases-loop-n l = length (rest_at l.file l.n.at)
+abbrev pub decreases-groups : goal.decreases-groups
+decreases-groups l = length (rest_at l.file l.n.at)

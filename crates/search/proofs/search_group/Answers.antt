@@ -6,6 +6,7 @@ use lib.ListN.{length}
 use Rattle.format.specs.Table.{grt}
 use Rattle.rules.specs.Works.{named_type}
 use Rattle.transactions.specs.Walk.{rest_at, Position}
+use Rattle.transactions.proofs.Levels.{standing}
 use Rattle.transactions.proofs.Sizes.{group-header, left_after, position-after, known-after}
 use Rattle.files.proofs.Groups.{opening-ends, opening-lent}
 use Rattle.search.specs.Levels.{PastCleanGroup}
@@ -13,21 +14,18 @@ use Rattle.search.proofs.search_group.Goals as goal
 
 pub slice_bounds-opening-end : goal.slice_bounds-opening-end
 slice_bounds-opening-end c =
-    let position : Position c.args.file.now (c.args.index + length (rest_at c.args.file.now c.args.at)) c.args.at c.args.index grt (rest_at c.args.file.now c.args.at) =
-    record { here = c.requires.file_len_bound.1; left = refl } in
+    let position = standing c.args.index c.requires.file_len_bound.1 in
     omega (arith, opening-ends position c.requires.file_len_bound.2)
 
 pub search_transactions-requires : goal.search_transactions-requires
 search_transactions-requires c =
-    let position : Position c.args.file.now (c.args.index + length (rest_at c.args.file.now c.args.at)) c.args.at c.args.index grt (rest_at c.args.file.now c.args.at) =
-    record { here = c.requires.file_len_bound.1; left = refl } in
+    let position = standing c.args.index c.requires.file_len_bound.1 in
     let here = position-after group-header position refl c.requires.file_len_bound.2 _ refl in
-    record { file_len_bound = (c.requires.file_len_bound.0, here.here, rw here.left c.requires.file_len_bound.3, omega (arith, c.requires.file_len_bound.4)); t_le_largest_tolerance = c.requires.t_le_largest_tolerance }
+    record { file_len_bound = (c.requires.file_len_bound.0, here.here, rw here.left c.requires.file_len_bound.3, omega (arith, c.requires.file_len_bound.4)); prepared = c.requires.prepared }
 
 pub returns : goal.returns
 returns c =
-    let position : Position c.args.file.now (c.args.index + length (rest_at c.args.file.now c.args.at)) c.args.at c.args.index grt (rest_at c.args.file.now c.args.at) =
-    record { here = c.requires.file_len_bound.1; left = refl } in
+    let position = standing c.args.index c.requires.file_len_bound.1 in
     let is-grh = c.requires.file_len_bound.2 in
     let named = c.field-named.ensures.result_value ∙ ap named_type (opening-lent position is-grh _ refl) in
     let found = c.search_transactions.result in record {

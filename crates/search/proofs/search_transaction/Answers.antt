@@ -12,63 +12,39 @@ use Rattle.rules.specs.Works.{details_from}
 use Rattle.tables.specs.Index.{Indexed}
 use Rattle.headers.specs.Headed.{Headed}
 use Rattle.transactions.specs.Walk.{rest_at, tail_of, front_of, Position, PastDetails}
-use Rattle.transactions.proofs.Sizes.{transaction-header, left_after, position-after, known-after}
-use Rattle.transactions.proofs.Fronts.{past-below}
+use Rattle.transactions.proofs.Fronts.{after-header, details-left, past-header, past-below}
 use Rattle.search.proofs.Laws.{grave-inside, grave-header, none-grave}
 use Rattle.search.proofs.search_transaction.Goals as goal
 
 pub judge_details-d-requires : goal.judge_details-d-requires
 judge_details-d-requires c =
-    let position : Position c.args.file.now (c.args.index + length (rest_at c.args.file.now c.args.at)) c.args.at c.args.index head (rest_at c.args.file.now c.args.at) =
-    record { here = c.requires.file_len_bound.1; left = refl } in
-    let inside = position-after transaction-header position refl c.requires.file_len_bound.2 _ refl in
-    record { file_len_bound = (c.requires.file_len_bound.0, inside.here, rw inside.left c.requires.file_len_bound.3, tt); prepared = c.requires.t_le_largest_tolerance.1 }
+    let inside = after-header c.args.index c.requires.file_len_bound.1 c.requires.file_len_bound.2 in
+    record { file_len_bound = (c.requires.file_len_bound.0, inside.here, rw inside.left c.requires.file_len_bound.3, tt); prepared = c.requires.prepared }
 
 pub returns-then-d : goal.returns-then-d
 returns-then-d c =
-    let position : Position c.args.file.now (c.args.index + length (rest_at c.args.file.now c.args.at)) c.args.at c.args.index head (rest_at c.args.file.now c.args.at) =
-    record { here = c.requires.file_len_bound.1; left = refl } in
     let rejected : (tables : Tables) → Indexed tables c.args.slots.now → c.judge_details-d.result.rejects ≡ any rejects (details_from tables [] (front_of (rest_at c.args.file.now c.args.at)).details) =
-    λ tables e. rw (left_after transaction-header position refl c.requires.file_len_bound.2 _ refl) at (c.judge_details-d.ensures.done_details tables e).rejects in
+    λ tables e. rw (details-left c.args.index c.requires.file_len_bound.1 c.requires.file_len_bound.2) at (c.judge_details-d.ensures.done_details tables e).rejects in
     record { past_clean_transaction = tt; result_value = λ tables e. grave-inside _ _ _ _ (sym c.if-d.true ∙ rejected tables e) }
 
 pub judge_header-h-requires : goal.judge_header-h-requires
 judge_header-h-requires c =
-    let position : Position c.args.file.now (c.args.index + length (rest_at c.args.file.now c.args.at)) c.args.at c.args.index head (rest_at c.args.file.now c.args.at) =
-    record { here = c.requires.file_len_bound.1; left = refl } in
-    let past : PastDetails c.args.file.now (c.args.index + length (rest_at c.args.file.now c.args.at)) (tail_of (rest_at c.args.file.now c.args.at)) c.judge_details-d.result =
-    known-after transaction-header position refl c.requires.file_len_bound.2 _ refl
-    (λ k l. PastDetails c.args.file.now k l c.judge_details-d.result)
-    (c.judge_details-d.ensures.past_details c.if-d.false) in
-    let inside = position-after transaction-header position refl c.requires.file_len_bound.2 _ refl in
-    let tail = ap length (left_after transaction-header position refl c.requires.file_len_bound.2 _ refl) in
+    let past = past-header c.args.index c.requires.file_len_bound.1 c.requires.file_len_bound.2 (c.judge_details-d.ensures.past_details c.if-d.false) in
+    let inside = after-header c.args.index c.requires.file_len_bound.1 c.requires.file_len_bound.2 in
+    let tail = ap length (details-left c.args.index c.requires.file_len_bound.1 c.requires.file_len_bound.2) in
     let below = past-below past (omega (arith, inside.left, tail, c.requires.file_len_bound.3)) in
-    record { file_len_bound = (c.requires.file_len_bound.0, c.requires.file_len_bound.1, c.requires.file_len_bound.2); t_le_largest_tolerance = (c.requires.t_le_largest_tolerance.0, below) }
+    record { file_len_bound = (c.requires.file_len_bound.0, c.requires.file_len_bound.1, c.requires.file_len_bound.2); below = below }
 
 pub returns-then-h-ge-TR : goal.returns-then-h-ge-TR
 returns-then-h-ge-TR c =
-    let position : Position c.args.file.now (c.args.index + length (rest_at c.args.file.now c.args.at)) c.args.at c.args.index head (rest_at c.args.file.now c.args.at) =
-    record { here = c.requires.file_len_bound.1; left = refl } in
-    let past : PastDetails c.args.file.now (c.args.index + length (rest_at c.args.file.now c.args.at)) (tail_of (rest_at c.args.file.now c.args.at)) c.judge_details-d.result =
-    known-after transaction-header position refl c.requires.file_len_bound.2 _ refl
-    (λ k l. PastDetails c.args.file.now k l c.judge_details-d.result)
-    (c.judge_details-d.ensures.past_details c.if-d.false) in
-    let headed : (tables : Tables) → Indexed tables c.args.slots.now → Headed tables c.args.t c.args.named.now (front_of (rest_at c.args.file.now c.args.at)) c.judge_header-h.result =
-    λ tables e. let known = past in
-    c.judge_header-h.ensures tables _ e known.known known.linked in
+    let past = past-header c.args.index c.requires.file_len_bound.1 c.requires.file_len_bound.2 (c.judge_details-d.ensures.past_details c.if-d.false) in
+    let headed : (tables : Tables) → Indexed tables c.args.slots.now → _ = λ tables e. c.judge_header-h.ensures tables _ e past.known past.linked in
     record { past_clean_transaction = tt; result_value = λ tables e. grave-header _ _ _ _ (headed tables e) c.if-h-ge-TR.true }
 
 pub returns : goal.returns
 returns c =
-    let position : Position c.args.file.now (c.args.index + length (rest_at c.args.file.now c.args.at)) c.args.at c.args.index head (rest_at c.args.file.now c.args.at) =
-    record { here = c.requires.file_len_bound.1; left = refl } in
     let rejected : (tables : Tables) → Indexed tables c.args.slots.now → c.judge_details-d.result.rejects ≡ any rejects (details_from tables [] (front_of (rest_at c.args.file.now c.args.at)).details) =
-    λ tables e. rw (left_after transaction-header position refl c.requires.file_len_bound.2 _ refl) at (c.judge_details-d.ensures.done_details tables e).rejects in
-    let past : PastDetails c.args.file.now (c.args.index + length (rest_at c.args.file.now c.args.at)) (tail_of (rest_at c.args.file.now c.args.at)) c.judge_details-d.result =
-    known-after transaction-header position refl c.requires.file_len_bound.2 _ refl
-    (λ k l. PastDetails c.args.file.now k l c.judge_details-d.result)
-    (c.judge_details-d.ensures.past_details c.if-d.false) in
-    let headed : (tables : Tables) → Indexed tables c.args.slots.now → Headed tables c.args.t c.args.named.now (front_of (rest_at c.args.file.now c.args.at)) c.judge_header-h.result =
-    λ tables e. let known = past in
-    c.judge_header-h.ensures tables _ e known.known known.linked in
-    let some = c.requires.t_le_largest_tolerance.1 in record { past_clean_transaction = record { position = past.position; class = past.class; stray = (headed some.0 some.1).stray }; result_value = λ tables e. none-grave _ _ _ _ (headed tables e) c.if-h-ge-TR.false (sym c.if-d.false ∙ rejected tables e) }
+    λ tables e. rw (details-left c.args.index c.requires.file_len_bound.1 c.requires.file_len_bound.2) at (c.judge_details-d.ensures.done_details tables e).rejects in
+    let past = past-header c.args.index c.requires.file_len_bound.1 c.requires.file_len_bound.2 (c.judge_details-d.ensures.past_details c.if-d.false) in
+    let headed : (tables : Tables) → Indexed tables c.args.slots.now → _ = λ tables e. c.judge_header-h.ensures tables _ e past.known past.linked in
+    let some = c.requires.prepared in record { past_clean_transaction = record { position = past.position; class = past.class; stray = (headed some.0 some.1).stray }; result_value = λ tables e. none-grave _ _ _ _ (headed tables e) c.if-h-ge-TR.false (sym c.if-d.false ∙ rejected tables e) }

@@ -21,11 +21,11 @@ pub loop-p-init : goal.loop-p-init
 loop-p-init c =
     (begins (record { here = c.requires.file_len_bound.1; left = refl }) (omega arith, λ tables e. refl), c.requires.file_len_bound.3)
 
-pub search_transaction-one-requires : goal.search_transaction-one-requires
-search_transaction-one-requires c =
+pub search_transaction-requires : goal.search_transaction-requires
+search_transaction-requires c =
     let inv = c.loop-p.invariant.0 in
     let here = position inv in
-    record { file_len_bound = (c.requires.file_len_bound.0, here.here, header-here inv c.loop-p-test.true, rw here.left c.requires.file_len_bound.2); t_le_largest_tolerance = c.requires.t_le_largest_tolerance }
+    record { file_len_bound = (c.requires.file_len_bound.0, here.here, header-here inv c.loop-p-test.true, rw here.left c.requires.file_len_bound.2); prepared = c.requires.prepared }
 
 pub returns-in_default : goal.returns-in_default
 returns-in_default c =
@@ -35,7 +35,7 @@ returns-in_default c =
       past_clean_group = tt;
       result_value = λ tables e. grave-here (transaction_findings tables args.t args.named.now) args.number (xs inv) counted (none_yet tables e) _ _
           (split-here inv c.loop-p-test.true)
-          (ap is_grave_transaction (sym c.in_default.is) ∙ c.search_transaction-one.ensures.result_value tables e);
+          (c.in_default.ensures.result_value tables e);
     }
 
 pub overflow_add-k : goal.overflow_add-k
@@ -44,29 +44,23 @@ overflow_add-k c =
 
 pub loop-p-smaller : goal.loop-p-smaller
 loop-p-smaller c =
-    let clean : Passed =
-    c.in-Clean.q in
-    let past : PastTransaction c.args.named.now c.args.file.now (c.loop-p.p.index + length (rest_at c.args.file.now c.loop-p.p.at)) (rest_at c.args.file.now c.loop-p.p.at) clean =
-    subst (PastCleanTransaction _ _ _ _) c.in-Clean.is c.search_transaction-one.ensures.past_clean_transaction in
-    let fewer : length (rest_at c.args.file.now clean.at) < length (rest_at c.args.file.now c.loop-p.p.at) =
-    fewer-left c.loop-p.invariant.0 clean c.loop-p-test.true past in
+    let clean = c.in-Some.q in
+    let past = c.in-Some.ensures.past_clean_transaction in
+    let fewer = fewer-left c.loop-p.invariant.0 clean c.loop-p-test.true past in
     fewer
 
 pub loop-p-preserved : goal.loop-p-preserved
 loop-p-preserved c =
-    let clean : Passed =
-    c.in-Clean.q in
-    let past : PastTransaction c.args.named.now c.args.file.now (c.loop-p.p.index + length (rest_at c.args.file.now c.loop-p.p.at)) (rest_at c.args.file.now c.loop-p.p.at) clean =
-    subst (PastCleanTransaction _ _ _ _) c.in-Clean.is c.search_transaction-one.ensures.past_clean_transaction in
-    let fewer : length (rest_at c.args.file.now clean.at) < length (rest_at c.args.file.now c.loop-p.p.at) =
-    fewer-left c.loop-p.invariant.0 clean c.loop-p-test.true past in
+    let clean = c.in-Some.q in
+    let past = c.in-Some.ensures.past_clean_transaction in
+    let fewer = fewer-left c.loop-p.invariant.0 clean c.loop-p-test.true past in
     let args = c.args in
     let inv = c.loop-p.invariant.0 in
     let (counted, none_yet) = done inv in
     let not-grave : (tables : Tables) → Indexed tables args.slots.now
     → false ≡ any is_grave (transaction_findings tables args.t args.named.now (front_of (rest_at args.file.now c.loop-p.p.at))) =
-    λ tables e. ap is_grave_transaction (sym c.in-Clean.is) ∙ c.search_transaction-one.ensures.result_value tables e in
-    let some = c.requires.t_le_largest_tolerance.1 in
+    λ tables e. c.in-Some.ensures.result_value tables e in
+    let some = c.requires.prepared in
     let on : (tables : Tables) → (e : Indexed tables args.slots.now) → _ =
     λ tables e. one_on (transaction_findings tables args.t args.named.now) args.number (xs inv) counted (none_yet tables e) _ (not-grave tables e) in (
       one_more inv clean c.loop-p-test.true past ((on some.0 some.1).0, λ tables e. (on tables e).1),
@@ -79,7 +73,7 @@ returns c =
     let inv = c.loop-p.invariant.0 in
     let no_Header = c.loop-p-test.false in
     let (counted, none_yet) = done inv in
-    let some = c.requires.t_le_largest_tolerance.1 in
+    let some = c.requires.prepared in
     let all : (tables : Tables) → (e : Indexed tables args.slots.now) → _ =
     λ tables e. none_here (transaction_findings tables args.t args.named.now) args.number (xs inv) counted (none_yet tables e)
     (all-gone inv no_Header) in record { past_clean_group = (past_all inv no_Header, (all some.0 some.1).0, c.loop-p.invariant.1); result_value = λ tables e. (all tables e).1 }

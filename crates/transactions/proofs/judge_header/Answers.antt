@@ -19,7 +19,7 @@ judge-own-requires c =
 pub judge-requires : goal.judge-requires
 judge-requires c =
     let pre = c.requires.file_len_bound in
-    record { header_record = rw (lent transaction-header pre.1 refl pre.2 _ refl) (header-here pre.1 refl pre.2); below = (c.requires.t_le_largest_tolerance).1 }
+    record { header_record = rw (lent transaction-header pre.1 refl pre.2 _ refl) (header-here pre.1 refl pre.2); below = c.requires.below }
 
 pub returns : goal.returns
 returns c tables ds indexed known linked =

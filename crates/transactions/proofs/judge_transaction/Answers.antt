@@ -17,37 +17,37 @@ use Rattle.transactions.proofs.judge_transaction.Goals as goal
 pub judge_details-d-requires : goal.judge_details-d-requires
 judge_details-d-requires c =
     let inside = after-header c.args.index c.requires.file_len_bound.1 c.requires.file_len_bound.2 in
-    record { file_len_bound = (c.requires.file_len_bound.0, inside.here, rw inside.left c.requires.file_len_bound.3.few, rw inside.left c.requires.file_len_bound.3); prepared = c.requires.t_le_largest_tolerance.1 }
+    record { file_len_bound = (c.requires.file_len_bound.0, inside.here, rw inside.left c.requires.file_len_bound.3.few, rw inside.left c.requires.file_len_bound.3); prepared = c.requires.prepared }
 
 -- ---- its header
 pub judge_header-h-requires : goal.judge_header-h-requires
 judge_header-h-requires c =
     let inside = after-header c.args.index c.requires.file_len_bound.1 c.requires.file_len_bound.2 in
     let below = past-below (c.judge_details-d.ensures.past_details refl) (omega (arith, inside.left, c.requires.file_len_bound.3.few)) in
-    record { file_len_bound = (c.requires.file_len_bound.0, c.requires.file_len_bound.1, c.requires.file_len_bound.2); t_le_largest_tolerance = (c.requires.t_le_largest_tolerance.0, below) }
+    record { file_len_bound = (c.requires.file_len_bound.0, c.requires.file_len_bound.1, c.requires.file_len_bound.2); below = below }
 
 pub settle-requires : goal.settle-requires
 settle-requires c =
     let position = standing c.args.index c.requires.file_len_bound.1 in
-    let some = c.requires.t_le_largest_tolerance.1 in
+    let some = c.requires.prepared in
     entry-room position refl (room-kept (c.judge_details-d.ensures.done_details some.0 some.1).done.0 c.requires.file_len_bound.3)
 
 -- ---- its verdicts raised
 pub slice_bounds-raise-count : goal.slice_bounds-raise-count
 slice_bounds-raise-count c =
-    let some = c.requires.t_le_largest_tolerance.1 in
+    let some = c.requires.prepared in
     omega (arith, (c.judge_details-d.ensures.done_details some.0 some.1).done.0.end)
 
 pub slice_bounds-raise-start : goal.slice_bounds-raise-start
 slice_bounds-raise-start c =
-    let some = c.requires.t_le_largest_tolerance.1 in
+    let some = c.requires.prepared in
     omega (arith, (c.judge_details-d.ensures.done_details some.0 some.1).done.0.end)
 
 pub slice_bounds-raise-end : goal.slice_bounds-raise-end
 slice_bounds-raise-end c =
     let past = past-header c.args.index c.requires.file_len_bound.1 c.requires.file_len_bound.2 (c.judge_details-d.ensures.past_details refl) in
     let headed : (tables : Tables) → Indexed tables c.args.slots.now → _ = λ tables e. c.judge_header-h.ensures tables _ e past.known past.linked in
-    let some = c.requires.t_le_largest_tolerance.1 in
+    let some = c.requires.prepared in
     let room = room-kept (c.judge_details-d.ensures.done_details some.0 some.1).done.0 c.requires.file_len_bound.3 in
     omega (arith, past.position.left, room.in_v, kept-v (c.settle.ensures _ (headed some.0 some.1).set))
 
@@ -55,7 +55,7 @@ pub returns : goal.returns
 returns c =
     let past = past-header c.args.index c.requires.file_len_bound.1 c.requires.file_len_bound.2 (c.judge_details-d.ensures.past_details refl) in
     let headed : (tables : Tables) → Indexed tables c.args.slots.now → _ = λ tables e. c.judge_header-h.ensures tables _ e past.known past.linked in
-    let some = c.requires.t_le_largest_tolerance.1 in record {
+    let some = c.requires.prepared in record {
       past_transaction = record {
         position = past.position;
         class = past.class;
@@ -69,10 +69,10 @@ returns c =
 
 pub shape_of-verdicts : goal.shape_of-verdicts
 shape_of-verdicts c =
-    let some = c.requires.t_le_largest_tolerance.1 in
+    let some = c.requires.prepared in
     kept-v ((returns c).filled_transaction some.0 some.1).written
 
 pub shape_of-findings : goal.shape_of-findings
 shape_of-findings c =
-    let some = c.requires.t_le_largest_tolerance.1 in
+    let some = c.requires.prepared in
     kept-f ((returns c).filled_transaction some.0 some.1).written
