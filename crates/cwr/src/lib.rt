@@ -23,9 +23,8 @@ ghost use Rattle.cwr.specs.Packed.{packed_first};
 ghost use Rattle.cwr.specs.Promises.{Checked, FirstRejected, SheetTaken, Numbered, Counted, Lowest, RightLength};
 
 use answers::Answer;
-use search::Sought;
 use sheet::{Sheet, Taken};
-use values::Share;
+use values::{Share, Tolerance};
 
 // ---- a search through a file that passed, with its tables
 
@@ -36,7 +35,7 @@ fn seek(
     societies: &[u8],
     categories: &[u8],
     tolerance: u64,
-) -> Sought
+) -> Option<usize>
     requires file_len_bound { (length file.now ≤ most_bytes) × Here file.now 0 unknown (rest_at file.now 0)
         × (length (rest_at file.now 0) ≤ most_records) }
     requires tolerance_le_largest_tolerance { (tolerance ≤ largest_tolerance) × (right_table language_size languages.now ≡ true)
@@ -46,7 +45,13 @@ fn seek(
 {
     let mut slots = [0u32; tables::SLOTS];
     tables::index(languages, societies, categories, &mut slots);
-    search::search(file, tolerance, &slots)
+    search::search(
+        file,
+        Tolerance {
+            hundredths: tolerance,
+        },
+        &slots,
+    )
 }
 
 // ---- the calls
@@ -70,7 +75,17 @@ pub fn check(
         return r;
     }
     files::judge(
-        file, languages, societies, categories, tolerance, verdicts, findings,
+        file,
+        tables::Tables {
+            languages,
+            societies,
+            categories,
+        },
+        Tolerance {
+            hundredths: tolerance,
+        },
+        verdicts,
+        findings,
     );
     r
 }
@@ -139,8 +154,8 @@ pub fn first_rejected(
     }
     let sought = seek(file, languages, societies, categories, tolerance);
     match sought {
-        Sought::Nothing => First::Nothing,
-        Sought::At(transaction) => First::At(transaction),
+        None => First::Nothing,
+        Some(transaction) => First::At(transaction),
     }
 }
 

@@ -16,7 +16,7 @@ ghost use Rattle.sheet.specs.Told.{told_missed, told_of, added_of};
 
 use answers::Answer;
 use figures::{Figures, Misses};
-use values::Share;
+use values::{Share, Tolerance};
 
 // Of a right: the transactions whose total is neither 0 nor the full share.
 #[derive(Clone, Copy)]
@@ -122,7 +122,13 @@ fn count(file: &[u8], languages: &[u8], societies: &[u8], categories: &[u8]) -> 
 {
     let mut slots = [0u32; tables::SLOTS];
     tables::index(languages, societies, categories, &mut slots);
-    counting::count_file(file, Share::SLACK, &slots)
+    counting::count_file(
+        file,
+        Tolerance {
+            hundredths: Share::SLACK,
+        },
+        &slots,
+    )
 }
 
 // ---- the sheet

@@ -20,6 +20,7 @@ use answers::Answer;
 use claims::Claim;
 use collection::{Sought, Walk};
 use crowds::Crowd;
+use values::Tolerance;
 
 // Where the check stands between two transactions in doubt: whether there is one, the byte of its first detail, how much of the list is to be
 // cleared at the end, and the walk over the file.
@@ -157,7 +158,17 @@ fn begin(
         };
     }
     files::judge(
-        file, languages, societies, categories, tolerance, verdicts, findings,
+        file,
+        tables::Tables {
+            languages,
+            societies,
+            categories,
+        },
+        Tolerance {
+            hundredths: tolerance,
+        },
+        verdicts,
+        findings,
     );
     let s = collection::seek(file, territories, tolerance, walk, verdicts, findings);
     stand(s, room, r)

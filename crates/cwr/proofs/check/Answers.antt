@@ -16,7 +16,7 @@ judge-requires c =
     let told = answered _ _ _ _ _ _ _ c.admit-admitted.ensures c.in_room-r.ensures in
     let passes = sym c.passes.ensures ∙ not-false _ c.if-not-passes.false-raw in
     let (o, h, room) = fit _ _ _ args.verdicts.now args.findings.now _ told passes in
-    record { file_len_bound = (h.short, h.here, room); tolerance_le_largest_tolerance = (o.tolerance, o.languages, o.societies, o.categories) }
+    record { file_len_bound = (h.short, h.here, room); right = (o.languages, o.societies, o.categories) }
 
 pub returns : goal.returns
 returns c =

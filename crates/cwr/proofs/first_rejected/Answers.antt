@@ -16,14 +16,14 @@ seek-sought-requires c =
     let (o, fit) = let-in _ _ _ _ c.admit-admitted.ensures passes in
     record { file_len_bound = (fit.short, fit.here, fit.few); tolerance_le_largest_tolerance = (o.tolerance, o.languages, o.societies, o.categories) }
 
-pub returns-in-Nothing : goal.returns-in-Nothing
-returns-in-Nothing c =
+pub returns-in-None : goal.returns-in-None
+returns-in-None c =
     let passes = sym c.passes.ensures ∙ not-false _ c.if-not-passes.false-raw in
     found_first _ _ _ _ c.admit-admitted.ensures passes _
-    (ap in_file (sym c.in-Nothing.is) ∙ c.seek-sought.ensures)
+    (ap in_file (sym c.in-None.is) ∙ c.seek-sought.ensures)
 
-pub returns-in-At : goal.returns-in-At
-returns-in-At c =
+pub returns-in-Some : goal.returns-in-Some
+returns-in-Some c =
     let passes = sym c.passes.ensures ∙ not-false _ c.if-not-passes.false-raw in
     found_first _ _ _ _ c.admit-admitted.ensures passes _
-    (ap in_file (sym c.in-At.is) ∙ c.seek-sought.ensures)
+    (ap in_file (sym c.in-Some.is) ∙ c.seek-sought.ensures)

@@ -16,7 +16,7 @@ judge-requires c =
     let q = sym c.passes.ensures ∙ not-false _ c.if-not-passes.false-raw in
     let a = admitted _ _ _ _ _ _ _ _ c.answer-r.ensures q in
     let l = a.in-with in
-    record { file_len_bound = (l.fit.short, l.fit.here, a.enough-room); tolerance_le_largest_tolerance = (l.orderly.tolerance, l.orderly.languages, l.orderly.societies, l.orderly.categories) }
+    record { file_len_bound = (l.fit.short, l.fit.here, a.enough-room); right = (l.orderly.languages, l.orderly.societies, l.orderly.categories) }
 
 pub seek-s-requires : goal.seek-s-requires
 seek-s-requires c =
