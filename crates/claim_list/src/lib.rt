@@ -10,6 +10,7 @@ ghost use Rattle.claims.specs.Entries.{over_in};
 ghost use Rattle.parties.specs.Ahead.{entries_at, Within};
 
 use claims::Claim;
+use values::Tolerance;
 
 // The first n entries are zeros.
 pub fn clear(claims: &mut [Claim], n: usize)
@@ -37,8 +38,8 @@ pub fn fill(file: &[u8], table: &[u8], at: usize, claims: &mut [Claim]) -> usize
 }
 
 // The first territory in which the claims come to too much, with words of zeros to count in.
-fn exceeding_in(claims: &[Claim], table: &[u8], t: u64, work: &mut [u64]) -> usize
-    requires { (length claims.now ≤ most_records) × (right_territories table.now ≡ true) × (t ≤ largest_tolerance) × (work.old ≡ replicate 4096 0) }
+fn exceeding_in(claims: &[Claim], table: &[u8], t: Tolerance, work: &mut [u64]) -> usize
+    requires { (length claims.now ≤ most_records) × (right_territories table.now ≡ true) × (work.old ≡ replicate 4096 0) }
     ensures { result ≡ over_in table.now t claims.now }
 {
     let mut last = 0;
@@ -54,5 +55,6 @@ pub fn exceeding(claims: &[Claim], table: &[u8], t: u64) -> usize
     ensures { result ≡ over_in table.now t claims.now }
 {
     let mut work = [0u64; claims::WORDS];
+    let t = Tolerance { hundredths: t };
     exceeding_in(claims, table, t, &mut work)
 }

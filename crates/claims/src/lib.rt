@@ -3,7 +3,7 @@
 #![tactic(auto)]
 
 ghost use Rattle.std.specs.Prelude.{◌≡◌, true, false, cond, ◌&&◌, ◌||◌, List, [], ◌∷◌, ◌++◌, ℕ, ◌+◌, ◌*◌, ◌^◌, ◌<◌, ◌≤◌, eqb, ltb, length, get_or, replicate};
-ghost use Rattle.rules.specs.Values.{full_share, largest_tolerance};
+ghost use Rattle.rules.specs.Values.{full_share};
 ghost use Rattle.rules.specs.Totals.{PR, MR, SR, exceeds};
 ghost use Rattle.rules.specs.Territories.{territories_in, right_territories};
 ghost use Rattle.totals.specs.Sums.{rights, AtMost};
@@ -128,17 +128,16 @@ fn hold_all(table: &[u8], held: &mut [bool; 512])
 }
 
 // Whether one right comes to more than all, the word of the party at hand being here.
-fn exceeds(work: &[u64], at: usize, t: u64) -> bool
-    requires { (at + 3 < length work.now) × (get_or work.now at 0 ≤ 2 ^ 32) × (get_or work.now (at + 3) 0 ≤ 2 ^ 60) × (t ≤ largest_tolerance) }
+fn exceeds(work: &[u64], at: usize, t: Tolerance) -> bool
+    requires { (at + 3 < length work.now) × (get_or work.now at 0 ≤ 2 ^ 32) × (get_or work.now (at + 3) 0 ≤ 2 ^ 60) }
     ensures { result ≡ exceeds t full_share (get_or work.now (at + 3) 0 + get_or work.now at 0) }
 {
-    let t = Tolerance { hundredths: t };
     !Share::at_most(work[at + 3] + work[at], Share::FULL, t)
 }
 
 // Whether some right does in the territory at position j.
-fn is_over(work: &[u64], j: usize, t: u64) -> bool
-    requires { Bounded j work.now × (t ≤ largest_tolerance) }
+fn is_over(work: &[u64], j: usize, t: Tolerance) -> bool
+    requires { Bounded j work.now }
     ensures { result ≡ (exceeds t full_share (closed work.now j PR + current work.now j PR)
         || exceeds t full_share (closed work.now j MR + current work.now j MR)
         || exceeds t full_share (closed work.now j SR + current work.now j SR)) }
@@ -149,8 +148,8 @@ fn is_over(work: &[u64], j: usize, t: u64) -> bool
 
 // The first territory without members in which the entries counted come to more than all of some right; where there is none, how many
 // territories there are.
-pub fn first_over(table: &[u8], t: u64, work: &[u64]) -> usize
-    requires { (right_territories table.now ≡ true) × (t ≤ largest_tolerance) × Summed table.now work.now }
+pub fn first_over(table: &[u8], t: Tolerance, work: &[u64]) -> usize
+    requires { (right_territories table.now ≡ true) × Summed table.now work.now }
     ensures { (es : List Claim) (last : ℕ) → Counted table.now es last work.now → result ≡ over_in table.now t es }
 {
     let mut held: [bool; 512] = [false; 512];

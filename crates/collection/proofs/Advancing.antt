@@ -2,20 +2,20 @@
 use Prim.Native.Nat.{ℕ, suc, ◌+◌, ◌*◌, ◌<◌, ◌≤◌}
 use native.Mathlib.Omega.{arith}
 use mathlib.Core.Path.{◌≡◌, refl, sym, ap, ◌∙◌, subst}
-use mathlib.Core.Bool.{Bool, true, false, cond, true≢false}
+use mathlib.Core.Bool.{true, false, true≢false}
 use mathlib.Core.List.{List, [], ◌∷◌}
 use lib.ListN.{length, take, drop}
 use Rattle.format.specs.Bytes.{Bytes}
 use Rattle.format.specs.Table.{Class, head, trl}
 use Rattle.format.specs.Cwr22.{cwr22}
 use Rattle.format.specs.Checks.{is, cls, code, class_at, check7, AlongFrom}
-use Rattle.format.specs.Structure.{most_bytes, most_records, first_record}
+use Rattle.format.specs.Structure.{most_records, first_record}
 use Rattle.format.specs.Tree.{is_head, transactions_in}
 use Rattle.format.proofs.Logic.{is_T}
 use Rattle.format.proofs.Tests.{by_cases}
 use Rattle.format.proofs.Tree.{is→eq}
 use Rattle.rules.specs.Territories.{territories_in}
-use Rattle.rules.specs.WithTerritories.{Over, nowhere, over_among}
+use Rattle.rules.specs.WithTerritories.{Over, over_among}
 use Rattle.kinds.specs.declared.Row.{Row}
 use Rattle.kinds.specs.Rows.{row_for}
 use Rattle.kinds.proofs.Laws.{class-is}

@@ -2,8 +2,8 @@
 use Prim.Native.Nat.{ℕ, suc, ◌+◌, ◌*◌, ◌≤◌, ◌<◌}
 use native.Mathlib.Omega.{arith}
 use native.Mathlib.Nat.{add-zero}
-use mathlib.Core.Path.{◌≡◌, refl, sym, ap, ◌∙◌, subst}
-use mathlib.Core.Bool.{Bool, true, false, cond}
+use mathlib.Core.Path.{◌≡◌, refl, sym, ap, ◌∙◌}
+use mathlib.Core.Bool.{false, cond}
 use mathlib.Core.List.{List, [], ◌∷◌, ◌++◌}
 use lib.ListN.{length, take, drop, length-append, length-set}
 use Rattle.format.specs.Bytes.{Bytes}
@@ -22,10 +22,8 @@ use Rattle.transactions.specs.Walk.{rest_at, tail_of, Position}
 use Rattle.transactions.proofs.Levels.{Going, going-none, going_on, going-all, first-left, first-here}
 use Rattle.transactions.proofs.Standing.{front, detail-here, first-detail, next_here, no-detail}
 use Rattle.transactions.proofs.Sizes.{step}
-use Rattle.transactions.proofs.Gone.{length-parted}
 use Rattle.parties.specs.Most.{Most}
 use Rattle.parties.specs.declared.Largest.{Largest}
-use Rattle.collection.specs.declared.Tally.{Tally}
 use Rattle.collection.specs.declared.Details.{Details}
 use Rattle.collection.specs.Marked.{with48, marked48}
 use Rattle.collection.specs.Walk.{Known, PastDetails}

@@ -1,7 +1,6 @@
 -- The header before which a walk stands: where its details begin. Assumes nothing.
-use Prim.Native.Nat.{ℕ, suc, ◌+◌, ◌-◌, ◌*◌, ◌<◌, ◌≤◌}
-use native.Mathlib.Omega.{arith}
-use mathlib.Core.Path.{◌≡◌, refl, sym, ap, ◌∙◌}
+use Prim.Native.Nat.{ℕ, ◌+◌, ◌≤◌}
+use mathlib.Core.Path.{◌≡◌, sym, ap, ◌∙◌}
 use mathlib.Core.Bool.{true}
 use mathlib.Core.List.{List, ◌∷◌}
 use lib.ListN.{length}
@@ -12,7 +11,7 @@ use Rattle.format.specs.Checks.{cls}
 use Rattle.format.specs.Structure.{first_record}
 use Rattle.format.specs.Tree.{is_head}
 use Rattle.structure.specs.Cursor.{Here}
-use Rattle.transactions.specs.Walk.{rest_at, tail_of, Position}
+use Rattle.transactions.specs.Walk.{rest_at}
 use Rattle.transactions.proofs.Levels.{first-left}
 use Rattle.transactions.proofs.Sizes.{transaction-header, ends, position-after, left_after}
 use Rattle.collection.specs.declared.Walk.{Walk}

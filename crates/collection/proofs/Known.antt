@@ -1,9 +1,9 @@
 -- What is known of a transaction's claims with one detail more. Assumes nothing.
-use Prim.Native.Nat.{ℕ, zero, suc, ◌+◌, ◌<◌, ◌≤◌}
+use Prim.Native.Nat.{ℕ, suc, ◌+◌, ◌≤◌}
 use native.Mathlib.Omega.{arith}
 use native.Mathlib.Nat.{zero-add, add-zero}
 use mathlib.Core.Path.{◌≡◌, refl, sym, ap, ◌∙◌}
-use mathlib.Core.Bool.{Bool, true, false, cond, ◌&&◌, ◌||◌, or-false, true≢false}
+use mathlib.Core.Bool.{Bool, true, false, cond, ◌||◌, or-false}
 use mathlib.Core.List.{List, [], ◌∷◌, ◌++◌, append-nil}
 use lib.Dec.{eqb}
 use lib.ListN.{length, get_or}
@@ -12,11 +12,11 @@ use Rattle.format.specs.Bytes.{Bytes, same_bytes}
 use Rattle.format.proofs.Tests.{by_cases, same→eq}
 use Rattle.rules.specs.Records.{only, any}
 use Rattle.rules.specs.Territories.{Territory}
-use Rattle.rules.specs.Collection.{is_party, is_claim, mark, includes, is48}
+use Rattle.rules.specs.Collection.{is_party, is_claim, mark, is48}
 use Rattle.rules.proofs.Lists.{any_last, count-last}
 use Rattle.claims.specs.declared.Claim.{Claim}
 use Rattle.claims.specs.Entries.{entry_of, entries_from}
-use Rattle.claims.proofs.Totals.{Right48, right-48}
+use Rattle.claims.proofs.Totals.{right-48}
 use Rattle.parties.specs.declared.Largest.{Largest}
 use Rattle.parties.specs.Most.{Most}
 use Rattle.collection.specs.declared.Tally.{Tally}

@@ -1,37 +1,35 @@
 -- What is owed to the buffers and to the answer, past a control record, past a transaction, and once one in doubt is settled. Assumes nothing.
-use Prim.Native.Nat.{ℕ, zero, suc, ◌+◌, ◌-◌, ◌*◌, ◌<◌, ◌≤◌}
+use Prim.Native.Nat.{ℕ, zero, suc, ◌+◌, ◌-◌, ◌≤◌}
 use native.Mathlib.Omega.{arith}
 use native.Mathlib.Nat.{add-zero}
 use mathlib.Core.Path.{◌≡◌, refl, sym, ap, ◌∙◌, subst}
 use mathlib.Core.Bool.{Bool, true, false, cond, not, true≢false}
 use mathlib.Core.Option.{Option, none, some}
-use mathlib.Core.List.{List, [], ◌∷◌, ◌++◌, map}
+use mathlib.Core.List.{List, [], ◌∷◌, ◌++◌}
 use lib.ListN.{length, take, drop, take-append-drop}
 use lib.Seq.{drop-drop}
 use Rattle.format.specs.Bytes.{Bytes}
-use Rattle.format.specs.Doc.{Transaction}
-use Rattle.format.specs.Table.{Class, head, trl}
+use Rattle.format.specs.Table.{head}
 use Rattle.format.specs.Cwr22.{cwr22}
-use Rattle.format.specs.Checks.{is, cls}
-use Rattle.format.specs.Structure.{first_record}
+use Rattle.format.specs.Checks.{is}
 use Rattle.format.specs.Tree.{span, after, is_head, is_detail, transactions_in}
 use Rattle.format.specs.Lent.{splice}
 use Rattle.format.proofs.Tests.{by_cases}
 use lib.Dec.{ltb}
 use borrow.Author.Tests.{le-leb, ltb-false}
 use Rattle.rules.specs.Records.{only, any}
-use Rattle.rules.specs.Findings.{TR, verdict, larger}
+use Rattle.rules.specs.Findings.{larger}
 use Rattle.rules.specs.Verdicts.{raised}
 use Rattle.rules.specs.Territories.{Territory, territories_in}
 use Rattle.rules.specs.Collection.{is_claim, is47, is48, first_over}
-use Rattle.rules.specs.WithTerritories.{Over, nowhere, over, or_later, over_among, crowded_from}
+use Rattle.rules.specs.WithTerritories.{Over, or_later, crowded_from}
 use Rattle.structure.specs.Cursor.{Here}
-use Rattle.transactions.specs.Walk.{rest_at, tail_of, Position}
+use Rattle.transactions.specs.Walk.{rest_at, Position}
 use Rattle.transactions.proofs.Gone.{length-parted}
 use Rattle.collection.specs.declared.Walk.{Walk}
 use Rattle.collection.specs.declared.Sought.{Sought}
 use Rattle.collection.specs.Marked.{with47, raised_if, marked48, marked_t, raised_t, marked_from, raised_from}
-use Rattle.collection.specs.Walk.{Standing, or_found, Owes, Doubts, Judged}
+use Rattle.collection.specs.Walk.{or_found, Owes, Doubts, Judged}
 use Rattle.collection.proofs.Leaves.{detail-no-head}
 
 -- ---- past details, which are no headers

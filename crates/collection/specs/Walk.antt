@@ -1,6 +1,6 @@
 -- Internal: a walk over a file's transactions, from one in doubt to the next: where it stands, what it knows of a transaction's claims, and
 -- what it still owes to the two buffers and to the answer.
-use Rattle.std.specs.Prelude.{ℕ, suc, ◌+◌, ◌*◌, ◌≤◌, ◌≡◌, Bool, true, false, cond, List, [], ◌∷◌, length}
+use Rattle.std.specs.Prelude.{ℕ, suc, ◌+◌, ◌*◌, ◌≤◌, ◌≡◌, true, false, cond, List, length}
 use Rattle.std.proofs.Math.Option.{none}
 use Rattle.format.specs.Bytes.{Bytes}
 use Rattle.format.specs.Table.{Class, head, trl}
@@ -21,7 +21,7 @@ use Rattle.collection.specs.declared.Tally.{Tally}
 use Rattle.collection.specs.declared.Details.{Details}
 use Rattle.collection.specs.declared.Walk.{Walk}
 use Rattle.collection.specs.declared.Sought.{Sought}
-use Rattle.collection.specs.Marked.{with47, raised_if, marked48, marked_from, raised_from}
+use Rattle.collection.specs.Marked.{with47, raised_if, marked_from, raised_from}
 
 -- ---- a transaction's claims
 

@@ -27,6 +27,7 @@ use claims::Claim;
 use findings::TR;
 use kinds::{DETAIL, HEAD, PUBLISHER, PUBLISHERS_CLAIM, Row, TRL, WRITER, WRITERS_CLAIM};
 use parties::Largest;
+use values::Tolerance;
 
 // ---- the buffers
 
@@ -68,6 +69,16 @@ fn raise(rejected: bool, from: usize, end: usize, verdicts: &mut [u8])
     buffers::raise(&mut verdicts[from..end], least);
 }
 
+// ---- a right table
+
+// With hints where its codes stand.
+#[derive(Clone, Copy)]
+struct Places<'a> {
+    table: &'a [u8],
+    hints: &'a territories::Hints,
+    ghost right: { right_territories table.now ≡ true },
+}
+
 // ---- the claims of a transaction
 
 // What is known of its details so far: how many parties, whether some claim has 48, and the largest shares.
@@ -79,19 +90,19 @@ pub struct Tally {
 }
 
 // The entry of a claim, for that party.
-fn read(
-    record: &[u8],
-    publishers: bool,
-    table: &[u8],
-    hints: &territories::Hints,
-    party: u32,
-) -> Claim
-    requires { ClaimRecord publishers «record».now × (right_territories table.now ≡ true) }
-    ensures { result ≡ entry_of (territories_in table.now) party «record».now }
+fn read(record: &[u8], publishers: bool, places: Places, party: u32) -> Claim
+    requires { ClaimRecord publishers «record».now }
+    ensures { result ≡ entry_of (territories_in places.entry.table.now) party «record».now }
 {
     let code = parties::code(record, publishers);
-    let place = territories::find(table, hints, code);
-    parties::entry(record, publishers, place, territories::count(table), party)
+    let place = territories::find(places.table, places.hints, code);
+    parties::entry(
+        record,
+        publishers,
+        place,
+        territories::count(places.table),
+        party,
+    )
 }
 
 // With one claim more, which is that record of the file. An entry without a mark is that of a claim with 48.
@@ -99,27 +110,25 @@ fn judge_claim(
     record: &[u8],
     publishers: bool,
     index: usize,
-    table: &[u8],
-    hints: &territories::Hints,
+    places: Places,
     tally: Tally,
     findings: &mut [u8],
 ) -> Tally
-    requires claim_record { ClaimRecord publishers «record».now × (is_party «record».now ≡ false) × (right_territories table.now ≡ true)
+    requires claim_record { ClaimRecord publishers «record».now × (is_party «record».now ≡ false)
         × (8 * (index + 1) ≤ length findings.old) }
-    requires known { (ds : List Bytes) × Known (territories_in table.now) ds tally × (length ds < most_records) }
-    ensures known_2 { (ds : List Bytes) → Known (territories_in table.now) ds tally
-        → Known (territories_in table.now) (ds ++ «record».now ∷ []) result }
+    requires known { (ds : List Bytes) × Known (territories_in places.table.now) ds tally × (length ds < most_records) }
+    ensures known_2 { (ds : List Bytes) → Known (territories_in places.entry.table.now) ds tally
+        → Known (territories_in places.entry.table.now) (ds ++ «record».now ∷ []) result }
     ensures findings_after { findings.new
-        ≡ marked48 (territories_in table.now) index («record».now ∷ []) findings.old }
+        ≡ marked48 (territories_in places.entry.table.now) index («record».now ∷ []) findings.old }
 {
-    let claim = read(record, publishers, table, hints, tally.party);
+    let claim = read(record, publishers, places, tally.party);
     let wrong = claim.mark == 0;
     set_48(wrong, index, findings);
-    let largest = tally.largest;
     Tally {
-        party: tally.party,
         wrong: tally.wrong | wrong,
-        largest: largest.with(claim),
+        largest: tally.largest.with(claim),
+        ..tally
     }
 }
 
@@ -128,17 +137,16 @@ fn judge_detail(
     record: &[u8],
     row: Row,
     index: usize,
-    table: &[u8],
-    hints: &territories::Hints,
+    places: Places,
     tally: Tally,
     findings: &mut [u8],
 ) -> Tally
-    requires stands { Stands row «record».now × (right_territories table.now ≡ true) × (8 * (index + 1) ≤ length findings.old) }
-    requires known { (ds : List Bytes) × Known (territories_in table.now) ds tally × (length ds < most_records) }
-    ensures known_2 { (ds : List Bytes) → Known (territories_in table.now) ds tally
-        → Known (territories_in table.now) (ds ++ «record».now ∷ []) result }
+    requires stands { Stands row «record».now × (8 * (index + 1) ≤ length findings.old) }
+    requires known { (ds : List Bytes) × Known (territories_in places.table.now) ds tally × (length ds < most_records) }
+    ensures known_2 { (ds : List Bytes) → Known (territories_in places.entry.table.now) ds tally
+        → Known (territories_in places.entry.table.now) (ds ++ «record».now ∷ []) result }
     ensures findings_after { findings.new
-        ≡ marked48 (territories_in table.now) index («record».now ∷ []) findings.old }
+        ≡ marked48 (territories_in places.entry.table.now) index («record».now ∷ []) findings.old }
 {
     let sort = row.sort;
     if (sort == PUBLISHERS_CLAIM) | (sort == WRITERS_CLAIM) {
@@ -146,18 +154,15 @@ fn judge_detail(
             record,
             sort == PUBLISHERS_CLAIM,
             index,
-            table,
-            hints,
+            places,
             tally,
             findings,
         );
     }
     if (sort == PUBLISHER) | (sort == WRITER) {
-        let largest = tally.largest;
         return Tally {
             party: tally.party + 1,
-            wrong: tally.wrong,
-            largest: largest,
+            ..tally
         };
     }
     tally
@@ -173,28 +178,19 @@ pub struct Details {
 }
 
 // One detail on, whose row this is.
-fn pass_detail(
-    file: &[u8],
-    row: Row,
-    d: Details,
-    table: &[u8],
-    hints: &territories::Hints,
-    findings: &mut [u8],
-) -> Details
+fn pass_detail(file: &[u8], row: Row, d: Details, places: Places, findings: &mut [u8]) -> Details
     requires file_len_bound { (length file.now ≤ most_bytes) × Here file.now d.at head (rest_at file.now d.at)
         × (row ≡ row_for (take 3 (drop d.at file.now))) × (row.class ≡ 3) × (d.index < most_records) }
-    requires table_value { (right_territories table.now ≡ true) × (8 * (d.index + 1) ≤ length findings.old) }
-    requires known { (ds : List Bytes) × Known (territories_in table.now) ds d.tally × (length ds < most_records) }
+    requires room { 8 * (d.index + 1) ≤ length findings.old }
+    requires known { (ds : List Bytes) × Known (territories_in places.table.now) ds d.tally × (length ds < most_records) }
     ensures at_value { (result.at ≡ d.at + row.length + 2) × (result.index ≡ d.index + 1) }
-    ensures known_2 { (ds : List Bytes) → Known (territories_in table.now) ds d.tally
-        → Known (territories_in table.now) (ds ++ first_record (rest_at file.now d.at) ∷ []) result.tally }
+    ensures known_2 { (ds : List Bytes) → Known (territories_in places.entry.table.now) ds d.tally
+        → Known (territories_in places.entry.table.now) (ds ++ first_record (rest_at file.now d.at) ∷ []) result.tally }
     ensures findings_after { findings.new
-        ≡ marked48 (territories_in table.now) d.index (first_record (rest_at file.now d.at) ∷ []) findings.old }
+        ≡ marked48 (territories_in places.entry.table.now) d.index (first_record (rest_at file.now d.at) ∷ []) findings.old }
 {
-    let at = d.at;
-    let end = at + row.size();
-    let tally = d.tally;
-    let after = judge_detail(&file[at..end], row, d.index, table, hints, tally, findings);
+    let end = d.at + row.size();
+    let after = judge_detail(&file[d.at..end], row, d.index, places, d.tally, findings);
     Details {
         at: end + 2,
         index: d.index + 1,
@@ -208,16 +204,14 @@ fn judge_details(
     file: &[u8],
     start: usize,
     first: usize,
-    table: &[u8],
-    hints: &territories::Hints,
+    places: Places,
     findings: &mut [u8],
 ) -> Details
     requires { (length file.now ≤ most_bytes) × Here file.now start head (rest_at file.now start)
-        × (first + length (rest_at file.now start) ≤ most_records) × (8 * (first + length (rest_at file.now start)) ≤ length findings.old)
-        × (right_territories table.now ≡ true) }
-    ensures past_details { PastDetails file.now (first + length (rest_at file.now start)) (territories_in table.now)
+        × (first + length (rest_at file.now start) ≤ most_records) × (8 * (first + length (rest_at file.now start)) ≤ length findings.old) }
+    ensures past_details { PastDetails file.now (first + length (rest_at file.now start)) (territories_in places.entry.table.now)
         (rest_at file.now start) result }
-    ensures findings_after { findings.new ≡ marked48 (territories_in table.now) first
+    ensures findings_after { findings.new ≡ marked48 (territories_in places.entry.table.now) first
         (span (is_detail cwr22) (rest_at file.now start)) findings.old }
 {
     let rows = kinds::table();
@@ -232,19 +226,15 @@ fn judge_details(
         },
     };
     loop {
-        let at = d.at;
-        let k = transactions::hint_at(file, at);
-        let row = transactions::row_at(rows[k], file, at);
+        let k = transactions::hint_at(file, d.at);
+        let row = transactions::row_at(rows[k], file, d.at);
         if row.class != DETAIL {
-            let tally = d.tally;
             return Details {
-                at: at,
-                index: d.index,
                 class: row.class,
-                tally: tally,
+                ..d
             };
         }
-        d = pass_detail(file, row, d, table, hints, findings);
+        d = pass_detail(file, row, d, places, findings);
     }
 }
 
@@ -274,38 +264,34 @@ pub struct Sought {
 // One transaction, before whose header the walk stands: 48 on each of its claims. It is in doubt where the largest shares do not fit.
 fn judge_transaction(
     file: &[u8],
-    table: &[u8],
-    hints: &territories::Hints,
+    places: Places,
     t: u64,
     w: Walk,
     verdicts: &mut [u8],
     findings: &mut [u8],
 ) -> Sought
-    requires { (m : ℕ) × Lent file.now table.now t m verdicts.old findings.old × Standing file.now m w
+    requires { (m : ℕ) × Lent file.now places.table.now t m verdicts.old findings.old × Standing file.now m w
         × (cls cwr22 (first_record (rest_at file.now w.at)) ≡ head) }
     ensures by_index { (m : ℕ) (v g : Bytes) (o : Over)
-        → Owes file.now table.now t m v g o w verdicts.old findings.old
-        → Judged file.now table.now t m v g o result verdicts.new findings.new }
+        → Owes file.now places.entry.table.now t m v g o w verdicts.old findings.old
+        → Judged file.now places.entry.table.now t m v g o result verdicts.new findings.new }
     ensures at_in_bounds { length (rest_at file.now result.walk.at) < length (rest_at file.now w.at) }
 {
     let first = w.at + kinds::HEADER_LENGTH as usize + 2;
-    let d = judge_details(file, first, w.index + 1, table, hints, findings);
-    let tally = d.tally;
-    raise(tally.wrong, w.index, d.index, verdicts);
-    let largest = tally.largest;
-    let fits = largest.fits(t);
+    let d = judge_details(file, first, w.index + 1, places, findings);
+    raise(d.tally.wrong, w.index, d.index, verdicts);
+    let tolerance = Tolerance { hundredths: t };
+    let fits = d.tally.largest.fits(tolerance);
     Sought {
         walk: Walk {
             at: d.at,
             index: d.index,
-            number: choice::index(fits, w.number + 1, w.number),
-            found: w.found,
-            transaction: w.transaction,
-            territory: w.territory,
+            number: choice::pick(fits, w.number + 1, w.number),
             header: w.index,
+            ..w
         },
         doubtful: !fits,
-        first: first,
+        first,
     }
 }
 
@@ -318,11 +304,7 @@ impl Walk {
         Walk {
             at: self.at + size + 2,
             index: self.index + 1,
-            number: self.number,
-            found: self.found,
-            transaction: self.transaction,
-            territory: self.territory,
-            header: self.header,
+            ..self
         }
     }
 }
@@ -330,25 +312,23 @@ impl Walk {
 // From where the walk stands to the next transaction in doubt, or to the end.
 fn advance(
     file: &[u8],
-    table: &[u8],
-    hints: &territories::Hints,
+    places: Places,
     t: u64,
     from: Walk,
     verdicts: &mut [u8],
     findings: &mut [u8],
 ) -> Sought
-    requires { (m : ℕ) × Lent file.now table.now t m verdicts.old findings.old × Standing file.now m from }
+    requires { (m : ℕ) × Lent file.now places.table.now t m verdicts.old findings.old × Standing file.now m from }
     ensures by_index { (m : ℕ) (v g : Bytes) (o : Over)
-        → Owes file.now table.now t m v g o from verdicts.old findings.old
-        → Reached file.now table.now t m v g o result verdicts.new findings.new }
+        → Owes file.now places.entry.table.now t m v g o from verdicts.old findings.old
+        → Reached file.now places.entry.table.now t m v g o result verdicts.new findings.new }
     ensures result_bound { steps_left file.now result ≤ 2 * length (rest_at file.now from.at) }
 {
     let rows = kinds::table();
     let mut w = from;
     loop {
-        let at = w.at;
-        let k = transactions::hint_at(file, at);
-        let row = transactions::row_at(rows[k], file, at);
+        let k = transactions::hint_at(file, w.at);
+        let row = transactions::row_at(rows[k], file, w.at);
         if row.class == TRL {
             return Sought {
                 walk: w,
@@ -357,7 +337,7 @@ fn advance(
             };
         }
         if row.class == HEAD {
-            let s = judge_transaction(file, table, hints, t, w, verdicts, findings);
+            let s = judge_transaction(file, places, t, w, verdicts, findings);
             if s.doubtful {
                 return s;
             }
@@ -385,7 +365,11 @@ pub fn seek(
 {
     let mut hints = [0u16; territories::SLOTS];
     territories::hint(table, &mut hints);
-    advance(file, table, &hints, t, from, verdicts, findings)
+    let places = Places {
+        table,
+        hints: &hints,
+    };
+    advance(file, places, t, from, verdicts, findings)
 }
 
 // The transaction in doubt, once its claims are counted: the first territory that is over, or as many as there are.
@@ -403,12 +387,10 @@ pub fn settle(table: &[u8], w: Walk, over: usize, verdicts: &mut [u8], findings:
     raise(is, w.header, w.index, verdicts);
     let new = is & !w.found;
     Walk {
-        at: w.at,
-        index: w.index,
         number: w.number + 1,
         found: is | w.found,
-        transaction: choice::index(new, w.number, w.transaction),
-        territory: choice::index(new, over, w.territory),
-        header: w.header,
+        transaction: choice::pick(new, w.number, w.transaction),
+        territory: choice::pick(new, over, w.territory),
+        ..w
     }
 }

@@ -3,7 +3,7 @@
 #![tactic(auto)]
 
 ghost use Rattle.std.specs.Prelude.{◌≡◌, true, cond, ◌||◌, List, [], ◌∷◌, ◌++◌, ℕ, ◌+◌, ◌^◌, ◌<◌, ◌≤◌, eqb, length, take, drop};
-ghost use Rattle.rules.specs.Values.{full_share, largest_tolerance};
+ghost use Rattle.rules.specs.Values.{full_share};
 ghost use Rattle.rules.specs.Totals.{Right};
 ghost use Rattle.rules.specs.Territories.{Territory, codes_of};
 ghost use Rattle.rules.specs.Collection.{claim_field, mark as Collection·mark, claimed};
@@ -150,12 +150,11 @@ impl Largest {
     }
 
     // Whether they add up to no more than all of each right. Then no territory is over; else one may be, or none.
-    pub fn fits(self, t: u64) -> bool
-        requires { (t ≤ largest_tolerance) × Added self }
+    pub fn fits(self, t: Tolerance) -> bool
+        requires { Added self }
         ensures { (es : List Claim) → Most es self → result ≡ true → (right : Right) → most_from right 0 0 es ≤ full_share + t }
     {
         let total = self.before.with(self.current);
-        let t = Tolerance { hundredths: t };
         Share::at_most(total.pr, Share::FULL, t)
             & Share::at_most(total.mr, Share::FULL, t)
             & Share::at_most(total.sr, Share::FULL, t)

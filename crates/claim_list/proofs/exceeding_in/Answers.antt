@@ -10,7 +10,7 @@ use Rattle.claim_list.proofs.exceeding_in.Goals as goal
 
 pub loop-claim-init : goal.loop-claim-init
 loop-claim-init c =
-    subst (Counted c.args.table.now [] 0) (sym c.requires.3) (counted_start c.args.table.now c.requires.1)
+    subst (Counted c.args.table.now [] 0) (sym c.requires.2) (counted_start c.args.table.now c.requires.1)
 
 pub count-last-requires : goal.count-last-requires
 count-last-requires c =
@@ -31,7 +31,7 @@ first_over-requires c =
     let l = c.loop-claim in
     let ys = c.args.claims.now in
     let few = length-take-le l.claim-index ys (omega arith) in
-    (c.requires.1, c.requires.2, (take l.claim-index ys, l.last, l.invariant, omega (arith, few, c.requires.0)))
+    (c.requires.1, (take l.claim-index ys, l.last, l.invariant, omega (arith, few, c.requires.0)))
 
 pub returns : goal.returns
 returns c =

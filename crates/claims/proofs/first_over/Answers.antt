@@ -23,11 +23,9 @@ bounds-held-j c =
 pub is_over-requires : goal.is_over-requires
 is_over-requires c =
     let l = c.loop-j in
-    let (es, last, counted, less) = c.requires.2 in (
-      bounded c.args.table.now es last c.args.work.now counted l.j (omega (arith, c.loop-j-test.true, c.count-n.ensures))
-          (right-table c.args.table.now c.requires.0).few less,
-      c.requires.1,
-    )
+    let (es, last, counted, less) = c.requires.1 in
+    bounded c.args.table.now es last c.args.work.now counted l.j (omega (arith, c.loop-j-test.true, c.count-n.ensures))
+    (right-table c.args.table.now c.requires.0).few less
 
 pub returns-then-held-j : goal.returns-then-held-j
 returns-then-held-j c es last counted =

@@ -4,7 +4,7 @@ use Rattle.collection.proofs.Advancing.{Underway}
 use Rattle.collection.proofs.advance.Given as goal
 
 abbrev pub invariant-loop-rows : goal.invariant-loop-rows
-invariant-loop-rows l = Underway l.file l.table l.t l.initial.verdicts l.initial.findings l.initial.w l.verdicts l.findings l.w
+invariant-loop-rows l = Underway l.file l.places.table.now l.t l.initial.verdicts l.initial.findings l.initial.w l.verdicts l.findings l.w
 
 abbrev pub decreases-loop-rows : goal.decreases-loop-rows
 decreases-loop-rows l = length (rest_at l.file l.w.at)

@@ -11,7 +11,7 @@ use Rattle.collection.proofs.judge_claim.Goals as goal
 
 pub with-requires : goal.with-requires
 with-requires c =
-    let T = territories_in c.args.table.now in
+    let T = territories_in c.args.places.table.now in
     let (ds, known, few) = c.requires.known in
     (entries_from T 0 ds, known.most, omega (arith, few, entries-fewer T 0 ds))
 
@@ -20,8 +20,8 @@ returns c =
     let entry = c.read-claim.ensures in
     let set = c.set_48.ensures in
     let a = c.args in
-    let T = territories_in a.table.now in
-    let (kind, no-party, right, room) = c.requires.claim_record in record {
+    let T = territories_in a.places.table.now in
+    let (kind, no-party, room) = c.requires.claim_record in record {
       known_2 = λ ds known. known-claim T ds a.tally known a.«record».now no-party kind.1 _ entry _ c.with.ensures;
       findings_after = set ∙ ap (λ b. cond b (with48 a.index a.findings.now) a.findings.now)
           (ap (λ e. eqb e.mark 0) entry ∙ wrong-marked T a.tally.party a.«record».now kind.1);

@@ -10,9 +10,9 @@ use Rattle.collection.proofs.judge_detail.Goals as goal
 pub judge_claim-requires : goal.judge_claim-requires
 judge_claim-requires c =
     let a = c.args in
-    let ((detail, long), right, room) = c.requires.stands in
+    let ((detail, long), room) = c.requires.stands in
     let sort = c.if-sort.true in
-    record { claim_record = (claim-here a.row a.«record».now detail.0 long sort, claim-no-party a.row a.«record».now detail.0 sort, right, room); known = c.requires.known }
+    record { claim_record = (claim-here a.row a.«record».now detail.0 long sort, claim-no-party a.row a.«record».now detail.0 sort, room); known = c.requires.known }
 
 pub overflow_add-result : goal.overflow_add-result
 overflow_add-result c =
@@ -22,7 +22,7 @@ overflow_add-result c =
 pub returns-then-sort-2 : goal.returns-then-sort-2
 returns-then-sort-2 c =
     let a = c.args in
-    let T = territories_in a.table.now in
+    let T = territories_in a.places.table.now in
     let r = a.«record».now in
     let kind = party-here a.row r c.requires.stands.0.0.0 c.if-sort-2.true in
     record { known_2 = λ ds known. known-party T ds a.tally known r kind.0 kind.1; findings_after = rw (not-wrong T r kind.1) }
@@ -30,7 +30,7 @@ returns-then-sort-2 c =
 pub returns : goal.returns
 returns c =
     let a = c.args in
-    let T = territories_in a.table.now in
+    let T = territories_in a.places.table.now in
     let r = a.«record».now in
     let kind = neither-here a.row r c.requires.stands.0.0.0 c.if-sort.false c.if-sort-2.false in
     record { known_2 = λ ds known. known-other T ds a.tally known r kind.0 kind.1; findings_after = rw (not-wrong T r kind.1) }

@@ -30,7 +30,7 @@ returns-then-row-ne-DETAIL c =
 pub pass_detail-d-requires : goal.pass_detail-d-requires
 pass_detail-d-requires c =
     let inv = c.loop-rows.invariant in
-    let (short, begun, few, room, right) = c.requires in record { file_len_bound = (short, here inv, c.row_at-row.ensures, c.if-row-ne-DETAIL.false, omega (arith, few, numbered inv)); table_value = (right, omega (arith, room, numbered inv, same-long inv)); known = (ds inv, known inv, fewer inv few) }
+    let (short, begun, few, room) = c.requires in record { file_len_bound = (short, here inv, c.row_at-row.ensures, c.if-row-ne-DETAIL.false, omega (arith, few, numbered inv)); room = omega (arith, room, numbered inv, same-long inv); known = (ds inv, known inv, fewer inv few) }
 
 pub loop-rows-smaller : goal.loop-rows-smaller
 loop-rows-smaller c =

@@ -21,7 +21,7 @@ pub judge_details-d-requires : goal.judge_details-d-requires
 judge_details-d-requires c =
     let (m, lent, standing, is) = c.requires in
     let h = headed standing is _ refl in
-    (lent.short, h.here, omega (arith, h.counted, lent.few), omega (arith, h.counted, lent.in_g), lent.right)
+    (lent.short, h.here, omega (arith, h.counted, lent.few), omega (arith, h.counted, lent.in_g))
 
 pub raise-requires : goal.raise-requires
 raise-requires c =
@@ -36,10 +36,15 @@ fits-fits-requires c =
     let (m, lent, standing, is) = c.requires in
     let h = headed standing is _ refl in
     let rest = rest_at c.args.file.now (c.args.w.at + 260 + 2) in
-    let T = territories_in c.args.table.now in
+    let T = territories_in c.args.places.table.now in
     let ds = span (is_detail cwr22) rest in
     let known = c.judge_details-d.ensures.past_details.known in
-    (lent.small, (entries_from T 0 ds, known.most, omega (arith, entries-fewer T 0 ds, length-parted (is_detail cwr22) rest, h.counted, lent.few)))
+    (entries_from T 0 ds, known.most, omega (arith, entries-fewer T 0 ds, length-parted (is_detail cwr22) rest, h.counted, lent.few))
+
+pub invariant_of-tolerance : goal.invariant_of-tolerance
+invariant_of-tolerance c =
+    let (m, lent, standing, is) = c.requires in
+    lent.small
 
 pub overflow_add-w-2 : goal.overflow_add-w-2
 overflow_add-w-2 c =
@@ -49,7 +54,7 @@ overflow_add-w-2 c =
 pub returns : goal.returns
 returns c =
     let a = c.args in
-    let T = territories_in a.table.now in
+    let T = territories_in a.places.table.now in
     let first = a.w.at + 260 + 2 in
     let rest = rest_at a.file.now first in
     let ds = span (is_detail cwr22) rest in
@@ -60,7 +65,7 @@ returns c =
           let h = headed owes.standing is first refl in
           let wrong = c.raise.ensures ∙ ap (λ (b : Bool). raised_if b a.w.index (c.judge_details-d.result.index - a.w.index) a.verdicts.now) past.known.wrong in
           judged owes _ first h.left h.its h.here _ _ (rw h.counted at past.position) _ _ wrong c.judge_details-d.ensures.findings_after
-          c.fits-fits.result _ c.index.ensures
+          c.fits-fits.result _ c.pick.ensures
           (λ e. fits-none T a.t ds (entries_from T 0 ds) refl (c.fits-fits.ensures (entries_from T 0 ds) past.known.most e));
       at_in_bounds = omega (arith, ap length here.left, past.position.left, length-parted (is_detail cwr22) rest, ap length past.position.here.left);
     }

@@ -21,7 +21,7 @@ judge_detail-after-requires c =
     let record-lent : take (c.args.d.at + c.size.result - c.args.d.at) (drop c.args.d.at c.args.file.now) ≡ first_record (rest_at c.args.file.now c.args.d.at) =
     lent c.requires.file_len_bound.1 c.requires.file_len_bound.2 _ end in
     let pre = c.requires in
-    record { stands = (rw record-lent (stands pre.file_len_bound.1 pre.file_len_bound.2 pre.file_len_bound.3), pre.table_value.0, pre.table_value.1); known = pre.known }
+    record { stands = (rw record-lent (stands pre.file_len_bound.1 pre.file_len_bound.2 pre.file_len_bound.3), pre.room); known = pre.known }
 
 pub overflow_add-result : goal.overflow_add-result
 overflow_add-result c =

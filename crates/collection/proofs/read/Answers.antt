@@ -10,12 +10,12 @@ use Rattle.collection.proofs.read.Goals as goal
 pub entry-requires : goal.entry-requires
 entry-requires c =
     let place = c.find-place.ensures in
-    let T = territories_in c.args.table.now in
-    let few = (right-table c.args.table.now c.requires.1).few in
-    (c.requires.0, omega (arith, place, place-within c.code-code.result.now (codes_of T), length-codes T, few))
+    let T = territories_in c.args.places.table.now in
+    let few = (right-table c.args.places.table.now c.args.places.right).few in
+    (c.requires, omega (arith, place, place-within c.code-code.result.now (codes_of T), length-codes T, few))
 
 pub returns : goal.returns
 returns c =
-    let T = territories_in c.args.table.now in
+    let T = territories_in c.args.places.table.now in
     c.entry.ensures T (c.find-place.ensures ∙ ap (λ code. place_of code (codes_of T)) c.code-code.ensures.result_value)
     c.count.ensures

@@ -37,13 +37,13 @@ returns c =
       index = a.w.index;
       number = a.w.number + 1;
       found = test || a.w.found;
-      transaction = c.index.result;
-      territory = c.index-2.result;
+      transaction = c.pick.result;
+      territory = c.pick-2.result;
       header = a.w.header;
     } in record {
       owes = λ f t m first v' g' o doubts is.
           rw (c.raise.ensures, c.set_47.ensures)
           (settled doubts after refl refl refl test (same ∙ is-over f a.table.now t first a.over is)
-          (told_with f a.table.now t first a.over is a.w after test same refl c.index.ensures c.index-2.ensures));
+          (told_with f a.table.now t first a.over is a.w after test same refl c.pick.ensures c.pick-2.ensures));
       at_value = refl;
     }

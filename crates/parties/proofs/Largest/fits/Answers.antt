@@ -5,7 +5,7 @@ use Rattle.parties.proofs.Largest.fits.Goals as goal
 
 pub with-total-requires : goal.with-total-requires
 with-total-requires c =
-    let (es, most, few) = c.requires.1 in
+    let (es, most, few) = c.requires in
     (at-most-before most (omega (arith, few)), at-most-current most (omega arith))
 
 pub returns : goal.returns
