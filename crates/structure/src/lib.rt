@@ -43,11 +43,14 @@ fn follows(p: u8, c: u8) -> bool
     requires { (p ≤ 6) × (c ≤ 6) }
     ensures { result ≡ may_follow (class_at p) (class_at c) }
 {
-    ((p == UNKNOWN) & (HDR == c))
-        | ((p == HDR) & (GRH == c))
-        | ((p == GRH) & (HEAD == c))
-        | (((p == HEAD) | (p == DETAIL)) & ((HEAD == c) | (DETAIL == c) | (GRT == c)))
-        | ((p == GRT) & ((GRH == c) | (TRL == c)))
+    matches!(
+        (p, c),
+        (UNKNOWN, HDR)
+            | (HDR, GRH)
+            | (GRH, HEAD)
+            | (HEAD | DETAIL, HEAD | DETAIL | GRT)
+            | (GRT, GRH | TRL)
+    )
 }
 
 // Where HDR has its version and its revision, three bytes each.
@@ -72,12 +75,10 @@ pub fn after_record(s: Stand, length: u16, class: u8) -> Stand
     requires { (s.at ≤ most_bytes) × (Kept s.counts) × (s.counts.records ≤ s.at) }
     ensures { Next s length class result }
 {
-    let counts = s.counts;
-    let more = counts.with(class);
     Stand {
-        at: s.at + length as usize + 2,
-        class: class,
-        counts: more,
+        at: s.at + usize::from(length) + 2,
+        class,
+        counts: s.counts.with(class),
     }
 }
 
@@ -86,11 +87,7 @@ fn numbered(asked: bool, counts: Counts, class: u8, record: &[u8]) -> bool
     requires { (CanGrow counts) × (at (class_at class) + width (class_at class) ≤ length «record».now) }
     ensures { result ≡ (not asked || same_bytes (slot (class_at class) «record».now) (expected (counts_in counts) (class_at class))) }
 {
-    if asked {
-        counts.holds(class, record)
-    } else {
-        true
-    }
+    !asked || counts.holds(class, record)
 }
 
 // ---- the walk
@@ -101,19 +98,17 @@ fn right(file: &[u8], asked: bool, s: Stand, row: Row) -> bool
     requires { (Bounded file.now s) × (length file.now ≤ most_bytes) × (Roomy row) }
     ensures { result ≡ true → RightAt file.now asked s row }
 {
-    let at = s.at;
-    let counts = s.counts;
     let length = row.size();
-    if file.len() - at < length + 2 {
+    if file.len() - s.at < length + 2 {
         return false;
     }
-    let end = at + length;
-    let record = &file[at..end];
+    let end = s.at + length;
+    let record = &file[s.at..end];
     kinds::is_type(row, record[0], record[1], record[2])
         & lines::pair_at(file, end)
         & lines::all_text(record)
         & follows(s.class, row.class)
-        & numbered(asked, counts, row.class, record)
+        & numbered(asked, s.counts, row.class, record)
 }
 
 // How far a file is right.
@@ -122,11 +117,10 @@ fn walk(file: &[u8], asked: bool) -> Stand
     ensures { Stood file.now asked result }
 {
     let rows = kinds::table();
-    let none = Counts::zero();
     let mut s = Stand {
         at: 0,
         class: UNKNOWN,
-        counts: none,
+        counts: Counts::zero(),
     };
     loop {
         let [a, b, c, ..] = &file[s.at..] else {
@@ -162,9 +156,8 @@ fn more(asked: bool, s: Stand, m: FirstFaults, record: &[u8], row: Row) -> First
     requires row_value { (row ≡ row_for (take 3 «record».now)) × (typed cwr22 «record».now ≡ true) }
     ensures { faults_of result ≡ more_faults cwr22 asked (faults_of m) (class_at s.class) (counts_in s.counts) «record».now }
 {
-    let counts = s.counts;
-    let place = counts.records as usize;
-    let held = numbered(asked, counts, row.class, record);
+    let place = s.counts.records as usize;
+    let held = numbered(asked, s.counts, row.class, record);
     let closes = (GRT == row.class) | (TRL == row.class);
     FirstFaults {
         seven: m.seven.or(unless(follows(s.class, row.class), place)),
@@ -213,13 +206,11 @@ fn judge(file: &[u8], asked: bool, version: bool, start: Stand) -> Answer
         nine: None,
     };
     while s.at < file.len() {
-        let at = s.at;
-        let end = lines::text_end(file, at);
-        let record = &file[at..end];
+        let end = lines::text_end(file, s.at);
+        let record = &file[s.at..end];
         let row = kinds::row_of(record);
         if !shaped(row, record) {
-            let counts = s.counts;
-            return Err(Refusal::Shape(counts.records as usize));
+            return Err(Refusal::Shape(s.counts.records as usize));
         }
         m = more(asked, s, m, record, row);
         s = after_record(s, row.length, row.class);
@@ -232,8 +223,7 @@ fn scan(file: &[u8], asked: bool, version: bool, s: Stand) -> Answer
     requires { (Bounded file.now s) × (length file.now ≤ most_bytes) }
     ensures { answer_of result ≡ rest_from cwr22 asked version (class_at s.class) (counts_in s.counts) (drop s.at file.now) }
 {
-    let counts = s.counts;
-    let n = lines::lines_from(file, s.at, counts.records as usize).map_err(Refusal::Line)?;
+    let n = lines::lines_from(file, s.at, s.counts.records as usize).map_err(Refusal::Line)?;
     if MOST_RECORDS < n {
         return Err(Refusal::Many);
     }
