@@ -1,6 +1,6 @@
 -- `headers::judge` meets its contract: each finding by its function. Assumes nothing.
 use mathlib.Core.Path.{refl, ap, ◌∙◌}
-use mathlib.Core.List.{[], ◌∷◌}
+use mathlib.Core.List.{[]}
 use Rattle.rules.specs.Findings.{field_findings, set_of, worst}
 use Rattle.rules.specs.Works.{header_findings}
 use Rattle.headers.proofs.Laws.{own-late, room}
@@ -14,7 +14,6 @@ unfolding header_findings
 returns c tables ds k l j =
     let h = c.args.bytes.now in
     let own = own-late tables [] h in
-    let links = c.args.links in
     rw (
       ← c.found_0-stray.ensures,
       ← c.found_1.ensures ds k.totals,
@@ -34,24 +33,7 @@ returns c tables ds k l j =
       ← c.found_15.ensures ds k.marks,
     )
     (c.join.ensures
-    (
-    c.found_1.result
-    ∷ c.found_2.result
-    ∷ c.found_3.result
-    ∷ c.found_4.result
-    ∷ c.found_5.result
-    ∷ c.found_6.result
-    ∷ c.found_7.result
-    ∷ c.found_8.result
-    ∷ c.found_9.result
-    ∷ c.found_10.result
-    ∷ links.many
-    ∷ links.shareless
-    ∷ links.joined
-    ∷ links.kept
-    ∷ c.found_15.result
-    ∷ []
-    )
+    _
     (field_findings tables [] h)
     refl
     c.gather-works.ensures.set_value

@@ -1,23 +1,12 @@
 -- `edits::header::judge` meets its contract: each finding by its function, and the others do not hold of this kind of record.
 -- Assumes nothing.
-use mathlib.Core.List.{[], ◌∷◌}
 use Rattle.edits.proofs.Own.{own-header}
 use Rattle.edits.proofs.header.judge.Goals as goal
 
 pub returns : goal.returns
 returns c tables before i =
     own-header tables before c.args.bytes.now c.requires.1
-    (
-    c.found_16.result
-    ∷ c.found_17.result
-    ∷ c.found_18.result
-    ∷ c.found_19.result
-    ∷ c.found_20.result
-    ∷ c.found_21.result
-    ∷ c.found_22.result
-    ∷ c.found_23.result
-    ∷ []
-    )
+    _
     _
     (rw (
       ← c.found_16.ensures,
