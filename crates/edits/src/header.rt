@@ -45,6 +45,7 @@ impl<'a> Model for Header<'a> {
 
 impl Header<'_> {
     // Title blank.
+    #[tactic(auto, unfolding(rules::specs::Header::is16))]
     fn found_16(&self) -> bool
         ensures { result ≡ is16 self.now }
     {
@@ -52,6 +53,7 @@ impl Header<'_> {
     }
 
     // Language entered and not in the table.
+    #[tactic(auto, unfolding(rules::specs::Header::is17))]
     fn found_17(&self, slots: &Slots) -> bool
         ensures { (tables : Tables) → Indexed tables slots.now → result ≡ is17 tables self.now }
     {
@@ -60,6 +62,7 @@ impl Header<'_> {
     }
 
     // Work number blank.
+    #[tactic(auto, unfolding(rules::specs::Header::is18))]
     fn found_18(&self) -> bool
         ensures { result ≡ is18 self.now }
     {
@@ -67,6 +70,7 @@ impl Header<'_> {
     }
 
     // ISWC entered and invalid.
+    #[tactic(auto, unfolding(rules::specs::Header::is19))]
     fn found_19(&self) -> bool
         ensures { result ≡ is19 self.now }
     {
@@ -75,6 +79,7 @@ impl Header<'_> {
     }
 
     // Copyright date not zeros and invalid.
+    #[tactic(auto, unfolding(rules::specs::Header::is20))]
     fn found_20(&self) -> bool
         ensures { result ≡ is20 self.now }
     {
@@ -83,6 +88,7 @@ impl Header<'_> {
     }
 
     // Category not in the table; a blank one never is.
+    #[tactic(auto, unfolding(rules::specs::Header::is21))]
     fn found_21(&self, slots: &Slots) -> bool
         ensures { (tables : Tables) → Indexed tables slots.now → result ≡ is21 tables self.now }
     {
@@ -98,6 +104,7 @@ impl Header<'_> {
     }
 
     // Category SER, and duration zero or invalid.
+    #[tactic(auto, unfolding(rules::specs::Header::is22))]
     fn found_22(&self) -> bool
         ensures { result ≡ is22 self.now }
     {
@@ -106,6 +113,7 @@ impl Header<'_> {
     }
 
     // Another category, and duration invalid.
+    #[tactic(auto, unfolding(rules::specs::Header::is23))]
     fn found_23(&self) -> bool
         ensures { result ≡ is23 self.now }
     {

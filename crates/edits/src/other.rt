@@ -64,6 +64,7 @@ impl<'a> Model for Release<'a> {
 
 impl Release<'_> {
     // Release date not zeros and invalid.
+    #[tactic(auto, unfolding(rules::specs::Other::is45))]
     fn found_45(&self) -> bool
         ensures { result ≡ is45 self.now }
     {
@@ -72,6 +73,7 @@ impl Release<'_> {
     }
 
     // Duration invalid.
+    #[tactic(auto, unfolding(rules::specs::Other::is46))]
     fn found_46(&self) -> bool
         ensures { result ≡ is46 self.now }
     {

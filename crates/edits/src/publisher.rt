@@ -190,6 +190,7 @@ impl Publisher {
     // ---- the type and the shares
 
     // SPU type not in the table.
+    #[tactic(auto, unfolding(rules::specs::Publisher::is28))]
     fn found_28(self) -> bool
         ensures { FindsPublisher self result is28 }
     {
@@ -197,6 +198,7 @@ impl Publisher {
     }
 
     // OPU type not in the table.
+    #[tactic(auto, unfolding(rules::specs::Publisher::is35))]
     fn found_35(self) -> bool
         ensures { FindsPublisher self result is35 }
     {
@@ -204,6 +206,7 @@ impl Publisher {
     }
 
     // A share above 0, and type neither E nor AQ.
+    #[tactic(auto, unfolding(rules::specs::Publisher::is31))]
     fn found_31(self) -> bool
         ensures { FindsPublisher self result is31 }
     {
@@ -211,6 +214,7 @@ impl Publisher {
     }
 
     // SPU of type AQ, and no E SPU of its chain known before it.
+    #[tactic(auto, unfolding(rules::specs::Publisher::is32))]
     fn found_32(self, known: bool) -> bool
         ensures { (before : List Bytes) (r : Bytes) → known ≡ earlier_e before r → PublisherReads self r → result ≡ is32 before r }
     {
@@ -251,6 +255,7 @@ impl Publisher {
     // ---- the other fields
 
     // SPU party number blank.
+    #[tactic(auto, unfolding(rules::specs::Publisher::is26))]
     fn found_26(self, record: &Record) -> bool
         ensures { PublisherReads self «record».now → result ≡ is26 «record».now }
     {
@@ -267,6 +272,7 @@ fn is_strange(code: &[u8], slots: &Slots) -> bool
 }
 
 impl Record<'_> {
+    #[tactic(auto, unfolding(rules::specs::Publisher::is36))]
     fn found_36(&self, slots: &Slots) -> bool
         ensures { (tables : Tables) → Indexed tables slots.now → result ≡ is36 tables self.now }
     {
@@ -276,6 +282,7 @@ impl Record<'_> {
     }
 
     // Tax number entered, not digits.
+    #[tactic(auto, unfolding(rules::specs::Publisher::is37))]
     fn found_37(&self) -> bool
         ensures { result ≡ is37 self.now }
     {

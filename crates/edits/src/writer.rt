@@ -133,6 +133,7 @@ impl Record<'_> {
 
 impl Writer {
     // SWR last name blank.
+    #[tactic(auto, unfolding(rules::specs::Writer::is38))]
     fn found_38(self, record: &Record) -> bool
         ensures { WriterReads self «record».now → result ≡ is38 «record».now }
     {
@@ -140,6 +141,7 @@ impl Writer {
     }
 
     // SWR designation not in the table.
+    #[tactic(auto, unfolding(rules::specs::Writer::is39))]
     fn found_39(self) -> bool
         ensures { FindsWriter self result is39 }
     {
@@ -147,6 +149,7 @@ impl Writer {
     }
 
     // OWR designation entered, not in the table.
+    #[tactic(auto, unfolding(rules::specs::Writer::is40))]
     fn found_40(self, record: &Record) -> bool
         ensures { WriterReads self «record».now → result ≡ is40 «record».now }
     {
@@ -154,6 +157,7 @@ impl Writer {
     }
 
     // SWR party number blank.
+    #[tactic(auto, unfolding(rules::specs::Writer::is42))]
     fn found_42(self, record: &Record) -> bool
         ensures { WriterReads self «record».now → result ≡ is42 «record».now }
     {

@@ -45,6 +45,7 @@ const RELATIONSHIP: Field = Field(137, 3);
 const VERSION_TYPE: Field = Field(143, 3);
 
 // The header's type is not the one that GRH names.
+#[tactic(auto, unfolding(rules::specs::Works::is0, format::specs::Fields::field_of))]
 fn found_0(header: &Header, named: &[u8]) -> bool
     ensures { result ≡ is0 named.now header.now }
 {
@@ -52,6 +53,7 @@ fn found_0(header: &Header, named: &[u8]) -> bool
 }
 
 // No writer.
+#[tactic(auto, unfolding(rules::specs::Writers::is4))]
 fn found_4(marks: Marks) -> bool
     ensures { (ds : List Bytes) → Marked marks ds → result ≡ is4 ds }
 {
@@ -59,6 +61,7 @@ fn found_4(marks: Marks) -> bool
 }
 
 // No writer that makes a work.
+#[tactic(auto, unfolding(rules::specs::Writers::is5))]
 fn found_5(marks: Marks) -> bool
     ensures { (ds : List Bytes) → Marked marks ds → result ≡ is5 ds }
 {
@@ -66,6 +69,7 @@ fn found_5(marks: Marks) -> bool
 }
 
 // A modified version, and no writer that changes a work.
+#[tactic(auto, unfolding(rules::specs::Writers::is6))]
 fn found_6(header: &Header, marks: Marks) -> bool
     ensures { (ds : List Bytes) → Marked marks ds → result ≡ is6 header.now ds }
 {
@@ -73,6 +77,7 @@ fn found_6(header: &Header, marks: Marks) -> bool
 }
 
 // An original work, and such a writer.
+#[tactic(auto, unfolding(rules::specs::Writers::is7))]
 fn found_7(header: &Header, marks: Marks) -> bool
     ensures { (ds : List Bytes) → Marked marks ds → result ≡ is7 header.now ds }
 {
@@ -80,6 +85,7 @@ fn found_7(header: &Header, marks: Marks) -> bool
 }
 
 // Category SER, and neither INS nor IND.
+#[tactic(auto, unfolding(rules::specs::Works::is9))]
 fn found_9(header: &Header, marks: Marks) -> bool
     ensures { (ds : List Bytes) → Marked marks ds → result ≡ is9 header.now ds }
 {
@@ -87,6 +93,7 @@ fn found_9(header: &Header, marks: Marks) -> bool
 }
 
 // Music alone by the relationship of text and music, and a writer of text.
+#[tactic(auto, unfolding(rules::specs::Writers::is10))]
 fn found_10(header: &Header, marks: Marks) -> bool
     ensures { (ds : List Bytes) → Marked marks ds → result ≡ is10 header.now ds }
 {
@@ -94,6 +101,7 @@ fn found_10(header: &Header, marks: Marks) -> bool
 }
 
 // More than one EWT, or more than one VER.
+#[tactic(auto, unfolding(rules::specs::Works::is15))]
 fn found_15(marks: Marks) -> bool
     ensures { (ds : List Bytes) → Marked marks ds → result ≡ is15 ds }
 {
