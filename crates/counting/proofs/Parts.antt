@@ -6,7 +6,7 @@ use mathlib.Core.Path.{◌≡◌, refl, ◌∙◌}
 use mathlib.Core.Bool.{Bool, false}
 use mathlib.Core.List.{List, [], ◌∷◌, ◌++◌, append_assoc, append-nil}
 use lib.Dec.{eqb, eqb-suc-zero}
-use lib.ListN.{length, length-append, length-map}
+use lib.ListN.{length-append, length-map}
 use Rattle.format.specs.Bytes.{All}
 use Rattle.format.specs.Structure.{most_records}
 use Rattle.rules.specs.Findings.{larger}
@@ -15,7 +15,6 @@ use Rattle.rules.specs.Sheet.{how_many, carries, counts_by_finding}
 use Rattle.rules.proofs.Counts.{how_many-append, each_same}
 use Rattle.files.proofs.Entries.{joined-last}
 use Rattle.figures.specs.Counted.{counts_by_level, Counts, Grown, Grows}
-use Rattle.figures.proofs.Records.{length-counts}
 use Rattle.transactions.specs.Purposes.{Begun}
 use Rattle.counting.specs.Levels.{Part}
 
@@ -80,9 +79,6 @@ module _ {n : ℕ} {fs ls : List ℕ} (begun : Begun n fs ls) where
     few_sets = omega (arith, h, begun.few_sets);
     few_verdicts = omega (arith, h, begun.few_verdicts);
   }
-
-  pub begun-long : (length fs ≡ 64) × (length ls ≡ 4)
-  begun-long = length-counts begun.counts
 
 -- ---- parts
 

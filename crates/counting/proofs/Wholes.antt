@@ -4,7 +4,7 @@ use native.Mathlib.Omega.{arith}
 use mathlib.Core.Path.{subst, ◌≡◌, refl}
 use mathlib.Core.Bool.{Bool, cond, ◌||◌}
 use mathlib.Core.List.{List, [], ◌∷◌, ◌++◌, map}
-use lib.ListN.{length, replicate, length-append, length-map}
+use lib.ListN.{length, length-append, length-map}
 use Rattle.format.specs.Bytes.{Bytes, All}
 use Rattle.format.specs.Doc.{Transaction}
 use Rattle.format.specs.Table.{unknown}

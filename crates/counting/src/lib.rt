@@ -91,7 +91,8 @@ pub struct Run {
     pub missing: Missing,
 }
 
-// The transactions of a group, after its GRH, which names that type.
+// The transactions of a group, after its GRH, which names that type. The loop is that of a check: the two are no one generic, which would
+// take the step as a parameter, and what it has done as ghost members and their laws, for the five lines that move on.
 fn count_transactions(
     file: &[u8],
     start: usize,

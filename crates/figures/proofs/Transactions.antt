@@ -1,5 +1,5 @@
 -- What transactions miss of the full share, with one transaction more. Assumes nothing.
-use Prim.Native.Nat.{ℕ, ◌+◌, ◌-◌, ◌*◌, ◌≤◌, max}
+use Prim.Native.Nat.{ℕ, ◌+◌, ◌-◌, max}
 use native.Mathlib.Omega.{arith}
 use mathlib.Core.Path.{◌≡◌, refl, ap, ◌∙◌}
 use mathlib.Core.Bool.{Bool, true, false, not, ◌&&◌, ◌||◌}
@@ -18,7 +18,7 @@ use Rattle.rules.proofs.Counts.{larger-max, largest-of, sum-append}
 use Rattle.totals.specs.declared.Rights.{Rights}
 use Rattle.figures.specs.declared.Misses.{Misses}
 use Rattle.figures.specs.declared.Missing.{Missing}
-use Rattle.figures.specs.Counted.{misses_by, misses_of, missing_of, whole_of, Within}
+use Rattle.figures.specs.Counted.{misses_by, misses_of, missing_of, whole_of}
 
 larger-one : (m n : ℕ) → larger m (larger n 0) ≡ larger m n
 larger-one m n = rw (larger-max n 0, larger-max m (max n 0), larger-max m n) (omega arith)
@@ -58,14 +58,6 @@ module _ (totals : List ℕ) (total : ℕ) where
   pub misses-same : misses total ≡ false → misses_of (totals ++ total ∷ []) ≡ misses_of totals
   unfolding misses_of
   misses-same e = ap misses_by (only-left misses totals total e)
-
--- how large they may be
-module _ (m : Misses) (k n : ℕ) (w : Within k m) where
-  pub within_same : Within (k + n) m
-  within_same = record { transactions = omega arith; short = omega arith; over = omega arith }
-
-  pub within_more : (total : ℕ) → total ≤ 200000 * n → 1 ≤ n → Within (k + n) (one_more m total)
-  within_more total h one = record { transactions = omega arith; short = omega arith; over = omega arith }
 
 -- what the code tests: 0 or the full share
 pub tested : (total : ℕ) → misses total ≡ not (eqb total 0 || eqb total full_share)

@@ -6,7 +6,7 @@ ghost use Rattle.std.specs.Prelude.{◌≡◌, Bool, cond, List, [], ◌∷◌, 
 ghost use Rattle.format.specs.Bytes.{All};
 ghost use Rattle.format.specs.Doc.{Transaction};
 ghost use Rattle.format.specs.Structure.{most_records};
-ghost use Rattle.rules.specs.Findings.{TR, GR, set_of, places, verdict, worst, larger as Findings·larger};
+ghost use Rattle.rules.specs.Findings.{TR, GR, set_of, places, verdict, worst};
 ghost use Rattle.rules.specs.Sheet.{counts_by_verdict};
 ghost use Rattle.rules.specs.Verdicts.{raised};
 ghost use Rattle.findings.specs.Many.{many};
@@ -26,12 +26,6 @@ pub struct Misses {
     pub excess: u64,
     pub short: u64,
     pub over: u64,
-}
-
-pub fn larger(a: u64, b: u64) -> u64
-    ensures { result ≡ Findings·larger a b }
-{
-    choice::pick(a <= b, b, a)
 }
 
 impl Misses {

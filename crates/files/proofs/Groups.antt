@@ -11,7 +11,7 @@ use Rattle.format.specs.Bytes.{Bytes}
 use Rattle.format.specs.Doc.{Group}
 use Rattle.format.specs.Table.{hdr, grh, grt, trl}
 use Rattle.format.specs.Cwr22.{cwr22}
-use Rattle.format.specs.Checks.{is, cls, may_follow}
+use Rattle.format.specs.Checks.{cls, may_follow}
 use Rattle.format.specs.Structure.{first_record}
 use Rattle.format.specs.Tree.{after, is_grh, is_inside, groups_in}
 use Rattle.format.proofs.Logic.{is_T}

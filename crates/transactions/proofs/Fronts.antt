@@ -18,7 +18,7 @@ use Rattle.rules.specs.Tables.{Tables}
 use Rattle.rules.specs.Records.{is_header}
 use Rattle.rules.specs.Findings.{worst}
 use Rattle.rules.specs.Works.{header_findings, details_from, transaction_findings}
-use Rattle.rules.specs.Verdicts.{rejects, raised, transaction_verdicts_by}
+use Rattle.rules.specs.Verdicts.{raised, transaction_verdicts_by}
 use Rattle.kinds.proofs.Laws.{in_class, of-class}
 use Rattle.structure.specs.Cursor.{Here}
 use Rattle.edits.specs.Kinds.{HeaderRecord}

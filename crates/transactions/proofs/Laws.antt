@@ -1,5 +1,5 @@
 -- The sets of a transaction's details, and where the walk over them ends. Assumes nothing.
-use Prim.Native.Nat.{ℕ, ◌+◌, ◌≤◌}
+use Prim.Native.Nat.{ℕ, ◌≤◌}
 use mathlib.Core.Path.{◌≡◌, sym, ap, ◌∙◌}
 use mathlib.Core.Bool.{Bool, true, false, false≢true, not, ◌||◌}
 use mathlib.Core.List.{List, [], ◌∷◌, ◌++◌, append_assoc, append-nil}
@@ -7,7 +7,6 @@ use lib.Dec.{eqb}
 use lib.ListN.{drop}
 use borrow.Author.Tests.{eqb-true}
 use Rattle.format.specs.Bytes.{Bytes}
-use Rattle.format.proofs.Logic.{left}
 use Rattle.format.proofs.Tests.{by_cases}
 use Rattle.rules.specs.Tables.{Tables}
 use Rattle.rules.specs.Findings.{own_findings, worst_from, worst}

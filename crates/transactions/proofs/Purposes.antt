@@ -1,7 +1,7 @@
 -- What is done with details, for each purpose: with one detail more, and at the end. Assumes nothing.
 use Prim.Native.Nat.{ℕ, ◌+◌, ◌*◌, ◌≤◌, ◌<◌}
 use native.Mathlib.Omega.{arith}
-use mathlib.Core.Path.{◌≡◌, refl, sym, ap, ◌∙◌}
+use mathlib.Core.Path.{◌≡◌, refl, ap, ◌∙◌}
 use mathlib.Core.Bool.{Bool, true, false, false≢true, ◌||◌, ◌&&◌}
 use mathlib.Core.List.{List, [], ◌∷◌, ◌++◌, map, append_assoc, append-nil, map-append}
 use lib.Dec.{eqb}
@@ -19,7 +19,7 @@ use Rattle.rules.proofs.Each.{own-long, each-detail}
 use Rattle.edits.specs.Judged.{Judged}
 use Rattle.edits.specs.declared.Found.{Found}
 use Rattle.buffers.proofs.Entries.{kept-v, kept-f}
-use Rattle.figures.proofs.Records.{length-counts, few-counts}
+use Rattle.figures.proofs.Records.{few-counts}
 use Rattle.transactions.specs.declared.Purpose.{Purpose}
 use Rattle.transactions.specs.declared.Purpose.TheVariants.{Write, Count, Search}
 use Rattle.transactions.specs.Walk.{Room}
@@ -89,18 +89,13 @@ module _ {purpose : Purpose} {tables : Tables} {i n : ℕ} {ds : List Bytes} {re
       early Search e done = done
 
   -- no buffer grows or shrinks
-  pub same-lengths : (m : ℕ) → Lent purpose i m v₀ g₀ fs₀ ls₀
-      → (length v ≡ length v₀) × (length g ≡ length g₀) × (length fs ≡ length fs₀) × (length ls ≡ length ls₀)
-  same-lengths m = same purpose before.done
+  pub same-lengths : (length v ≡ length v₀) × (length g ≡ length g₀)
+  same-lengths = same purpose before.done
     where
-      same : (q : Purpose) → Done q i n (details_from tables [] ds) v₀ g₀ fs₀ ls₀ v g fs ls → Lent q i m v₀ g₀ fs₀ ls₀
-          → (length v ≡ length v₀) × (length g ≡ length g₀) × (length fs ≡ length fs₀) × (length ls ≡ length ls₀)
-      same Write (filled, f, u) room = (kept-v filled.written, kept-f filled.written, ap length f, ap length u)
-      same Count (counted, end, a, b) begun =
-          let (f, u) = length-counts (counted begun.sets begun.verdicts begun.counts) in
-          let (f₀, u₀) = length-counts begun.counts in
-          (ap length a, ap length b, f ∙ sym f₀, u ∙ sym u₀)
-      same Search (a, b, f, u) lent = (ap length a, ap length b, ap length f, ap length u)
+      same : (q : Purpose) → Done q i n (details_from tables [] ds) v₀ g₀ fs₀ ls₀ v g fs ls → (length v ≡ length v₀) × (length g ≡ length g₀)
+      same Write (filled, f, u) = (kept-v filled.written, kept-f filled.written)
+      same Count (counted, end, a, b) = (ap length a, ap length b)
+      same Search (a, b, f, u) = (ap length a, ap length b)
 
   -- what is lent has room for one more
   pub writes : (m : ℕ) → Lent purpose i m v₀ g₀ fs₀ ls₀ → (Room m (length v) (length g) → (n < length v) × (8 * (n + 1) ≤ length g))

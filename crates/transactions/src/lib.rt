@@ -111,6 +111,8 @@ fn judge_detail(file: &[u8], row: Row, w: Walk, slots: &tables::Slots, chains: &
 
 // What a walk over details is for: their entries are written into the buffers of a check, they are counted for a sheet, or one that rejects
 // the transaction is searched for, and the walk ends there.
+// An enum and no trait: what a purpose is lent and what it has done would be ghost members and their laws, each case a struct of borrows with
+// an impl, for two calls in one loop.
 #[derive(Clone, Copy, PartialEq, Eq)]
 pub enum Purpose {
     Write,

@@ -1,17 +1,14 @@
 -- `counting::count_group` meets its contract. Assumes nothing.
 use Prim.Native.Nat.{◌+◌, ◌≤◌}
 use native.Mathlib.Omega.{arith}
-use mathlib.Core.Path.{◌≡◌, refl, sym, ap, ◌∙◌}
-use lib.ListN.{length}
-use Rattle.format.specs.Table.{grt}
+use mathlib.Core.Path.{refl, ap, ◌∙◌}
 use Rattle.format.specs.Structure.{most_records}
 use Rattle.rules.specs.Works.{named_type}
-use Rattle.transactions.specs.Walk.{rest_at, tail_of, Position}
+use Rattle.transactions.specs.Walk.{rest_at}
 use Rattle.transactions.proofs.Levels.{standing}
 use Rattle.transactions.proofs.Sizes.{group-header, left_after, position-after}
-use Rattle.files.specs.Levels.{PastTransactions}
 use Rattle.files.proofs.Groups.{opening-ends, opening-lent, past-inside, past-group}
-use Rattle.counting.proofs.Parts.{begun_more, begun-long, begun-on}
+use Rattle.counting.proofs.Parts.{begun_more}
 use Rattle.counting.proofs.Shares.{within_more, missing-wider}
 use Rattle.counting.proofs.Wholes.{group-grows, counted-group}
 use Rattle.counting.proofs.count_group.Goals as goal

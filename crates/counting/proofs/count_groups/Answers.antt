@@ -7,7 +7,7 @@ use Rattle.transactions.specs.Purposes.{Begun}
 use Rattle.files.specs.Levels.{group_of}
 use Rattle.files.proofs.Entries.{joined-last}
 use Rattle.files.proofs.Groups.{begins, position, done, in-file, group-here, one_more, fewer-left, past_all, all_done}
-use Rattle.counting.proofs.Parts.{begun-long, begun-on, part-start, part-more}
+use Rattle.counting.proofs.Parts.{begun-on, part-start, part-more}
 use Rattle.counting.proofs.Shares.{missing-none, missing-then}
 use Rattle.counting.proofs.count_groups.Goals as goal
 

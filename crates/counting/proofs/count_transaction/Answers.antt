@@ -1,17 +1,15 @@
 -- `counting::count_transaction` meets its contract. Assumes nothing.
-use Prim.Native.Nat.{◌+◌, ◌*◌, ◌^◌, ◌≤◌}
+use Prim.Native.Nat.{◌*◌, ◌^◌, ◌≤◌}
 use native.Mathlib.Omega.{arith}
-use mathlib.Core.Path.{◌≡◌, refl, sym, ap, ◌∙◌}
+use mathlib.Core.Path.{refl, ap}
 use lib.ListN.{length}
-use Rattle.format.specs.Table.{head}
 use Rattle.format.specs.Structure.{most_records}
 use Rattle.rules.specs.Tables.{Tables}
 use Rattle.tables.specs.Index.{Indexed}
 use Rattle.totals.specs.Sums.{Below}
-use Rattle.headers.specs.Headed.{Headed}
-use Rattle.transactions.specs.Walk.{rest_at, tail_of, front_of, Position, PastDetails}
+use Rattle.transactions.specs.Walk.{rest_at, front_of}
 use Rattle.transactions.proofs.Fronts.{after-header, details-left, past-header, past-below}
-use Rattle.counting.proofs.Parts.{begun_more, begun-long, begun-on}
+use Rattle.counting.proofs.Parts.{begun_more}
 use Rattle.counting.proofs.Wholes.{few-before, low, transaction-grows, counted-whole, up_to}
 use Rattle.counting.proofs.count_transaction.Goals as goal
 

@@ -1,7 +1,7 @@
 -- `counting::count_transactions` meets its contract: each turn counts one transaction more. Assumes nothing.
 use Prim.Native.Nat.{suc, ◌+◌, ◌≤◌}
 use native.Mathlib.Omega.{arith}
-use mathlib.Core.Path.{◌≡◌, refl, sym, ap, ◌∙◌}
+use mathlib.Core.Path.{◌≡◌, refl, ap, ◌∙◌}
 use lib.ListN.{length}
 use Rattle.format.specs.Structure.{most_records}
 use Rattle.rules.specs.Works.{transaction_findings}
@@ -10,7 +10,7 @@ use Rattle.rules.proofs.Each.{transaction-findings}
 use Rattle.transactions.specs.Walk.{rest_at, front_of}
 use Rattle.transactions.specs.Purposes.{Begun}
 use Rattle.files.proofs.Transactions.{begins, xs, position, done, header-here, one_more, fewer-left, past_all, all_done}
-use Rattle.counting.proofs.Parts.{begun-long, begun-on, part-start, part-more}
+use Rattle.counting.proofs.Parts.{begun-on, part-start, part-more}
 use Rattle.counting.proofs.Shares.{within_more, up_more, missing-none, missing-one, missing-then}
 use Rattle.counting.proofs.count_transactions.Goals as goal
 

@@ -1,8 +1,6 @@
 -- `figures::count_set` meets its contract. Assumes nothing.
-use Prim.Native.Nat.{◌<◌}
 use native.Mathlib.Omega.{arith}
 use borrow.Author.Rules.{rules}
-use mathlib.Core.Path.{sym, ◌∙◌}
 use lib.Count.{count_trailing_zeros}
 use Rattle.figures.proofs.Records.{owing-all, few-yet, lowest-in, bit-of, bit_in, bit-some, owing-more, owing-none}
 use Rattle.figures.proofs.count_set.Goals as goal

@@ -1,16 +1,12 @@
 -- `files::judge_group` meets its contract. Assumes nothing.
-use Prim.Native.Nat.{◌+◌}
 use native.Mathlib.Omega.{arith}
 use mathlib.Core.Path.{refl, ap, ◌∙◌}
-use lib.ListN.{length}
-use Rattle.format.specs.Table.{grt}
 use Rattle.rules.specs.Works.{named_type}
 use Rattle.buffers.proofs.Entries.{kept-v, kept-f}
-use Rattle.transactions.specs.Walk.{rest_at, tail_of, Position}
+use Rattle.transactions.specs.Walk.{rest_at}
 use Rattle.transactions.proofs.Entries.{room-kept, entry-room, filled-then}
 use Rattle.transactions.proofs.Levels.{standing}
 use Rattle.transactions.proofs.Sizes.{group-header, left_after, position-after}
-use Rattle.files.specs.Levels.{PastTransactions}
 use Rattle.files.proofs.Groups.{opening-ends, opening-lent, past-inside, closing-ends, past-group, filled-group}
 use Rattle.files.proofs.judge_group.Goals as goal
 

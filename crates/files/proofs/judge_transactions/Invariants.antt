@@ -4,7 +4,7 @@ use Rattle.rules.specs.Tables.{Tables}
 use Rattle.tables.specs.Index.{Indexed}
 use Rattle.transactions.specs.Walk.{rest_at}
 use Rattle.files.specs.Levels.{FilledTransactions}
-use Rattle.files.proofs.Transactions.{Inv, xs}
+use Rattle.files.proofs.Transactions.{Inv}
 use Rattle.files.proofs.judge_transactions.Given as goal
 
 abbrev pub invariant-loop-p : goal.invariant-loop-p

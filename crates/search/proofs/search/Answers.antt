@@ -1,23 +1,14 @@
 -- `search::search` meets its contract: each turn searches one group more, and no transaction before it was grave. Assumes nothing.
-use Prim.Native.Nat.{ℕ, ◌+◌, ◌≤◌}
 use native.Mathlib.Omega.{arith}
-use mathlib.Core.Path.{◌≡◌, refl, sym, ap, ◌∙◌, subst}
-use mathlib.Core.Bool.{false}
-use mathlib.Core.List.{List}
+use mathlib.Core.Path.{◌≡◌, refl, sym, ◌∙◌}
 use lib.ListN.{length, length-map}
-use Rattle.format.specs.Bytes.{Bytes}
-use Rattle.format.specs.Cwr22.{cwr22}
-use Rattle.format.specs.Table.{grh, grt}
-use Rattle.format.specs.Checks.{cls}
-use Rattle.format.specs.Structure.{first_record}
 use Rattle.rules.specs.Works.{named_type, transaction_findings}
-use Rattle.transactions.specs.declared.Passed.{Passed}
-use Rattle.transactions.specs.Walk.{rest_at, tail_of}
+use Rattle.transactions.specs.Walk.{rest_at}
 use Rattle.transactions.proofs.Levels.{standing}
-use Rattle.files.specs.Levels.{transactions_of, group_of, PastTransactions, PastGroup}
+use Rattle.files.specs.Levels.{group_of}
 use Rattle.files.proofs.Files.{groups-here, all-groups}
 use Rattle.files.proofs.Groups.{begins, position, done, in-file, group-here, split-here, closing-ends, past-group, one_more, fewer-left, all-gone}
-use Rattle.search.specs.Levels.{PastCleanGroup, in_group, sets_of_group}
+use Rattle.search.specs.Levels.{sets_of_group}
 use Rattle.search.proofs.Laws.{grave-in, group-on, none_in}
 use Rattle.search.proofs.search.Goals as goal
 

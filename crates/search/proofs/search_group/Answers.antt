@@ -1,11 +1,7 @@
 -- `search::search_group` meets its contract. Assumes nothing.
-use Prim.Native.Nat.{◌+◌}
 use native.Mathlib.Omega.{arith}
 use mathlib.Core.Path.{refl, ap, ◌∙◌}
-use lib.ListN.{length}
-use Rattle.format.specs.Table.{grt}
 use Rattle.rules.specs.Works.{named_type}
-use Rattle.transactions.specs.Walk.{rest_at, Position}
 use Rattle.transactions.proofs.Levels.{standing}
 use Rattle.transactions.proofs.Sizes.{group-header, left_after, position-after, known-after}
 use Rattle.files.proofs.Groups.{opening-ends, opening-lent}

@@ -1,17 +1,14 @@
 -- `search::search_transaction` meets its contract. Assumes nothing.
-use Prim.Native.Nat.{◌+◌}
 use native.Mathlib.Omega.{arith}
-use mathlib.Core.Path.{◌≡◌, refl, sym, ap, ◌∙◌}
+use mathlib.Core.Path.{◌≡◌, sym, ap, ◌∙◌}
 use mathlib.Core.List.{[]}
 use lib.ListN.{length}
-use Rattle.format.specs.Table.{head}
 use Rattle.rules.specs.Tables.{Tables}
 use Rattle.rules.specs.Records.{any}
 use Rattle.rules.specs.Verdicts.{rejects}
 use Rattle.rules.specs.Works.{details_from}
 use Rattle.tables.specs.Index.{Indexed}
-use Rattle.headers.specs.Headed.{Headed}
-use Rattle.transactions.specs.Walk.{rest_at, tail_of, front_of, Position, PastDetails}
+use Rattle.transactions.specs.Walk.{rest_at, front_of}
 use Rattle.transactions.proofs.Fronts.{after-header, details-left, past-header, past-below}
 use Rattle.search.proofs.Laws.{grave-inside, grave-header, none-grave}
 use Rattle.search.proofs.search_transaction.Goals as goal

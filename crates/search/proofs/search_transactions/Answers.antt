@@ -1,7 +1,6 @@
 -- `search::search_transactions` meets its contract: each turn searches one transaction more, and none before it was grave. Assumes nothing.
-use Prim.Native.Nat.{◌+◌, ◌<◌}
 use native.Mathlib.Omega.{arith}
-use mathlib.Core.Path.{◌≡◌, refl, sym, ap, ◌∙◌, subst}
+use mathlib.Core.Path.{◌≡◌, refl, ap}
 use mathlib.Core.Bool.{false}
 use lib.ListN.{length}
 use Rattle.rules.specs.Tables.{Tables}
@@ -9,10 +8,8 @@ use Rattle.rules.specs.Records.{any}
 use Rattle.rules.specs.Works.{transaction_findings}
 use Rattle.rules.specs.First.{is_grave}
 use Rattle.tables.specs.Index.{Indexed}
-use Rattle.transactions.specs.declared.Passed.{Passed}
-use Rattle.transactions.specs.Walk.{rest_at, front_of, PastTransaction}
+use Rattle.transactions.specs.Walk.{rest_at, front_of}
 use Rattle.files.proofs.Transactions.{begins, xs, position, done, header-here, split-here, one_more, fewer-left, past_all, all-gone}
-use Rattle.search.specs.Levels.{PastCleanTransaction, is_grave_transaction}
 use Rattle.search.proofs.Laws.{grave-here, one_on, none_here}
 use Rattle.search.proofs.search_transactions.Goals as goal
 

@@ -7,7 +7,7 @@ use Rattle.rules.specs.Records.{any}
 use Rattle.rules.specs.First.{is_grave}
 use Rattle.tables.specs.Index.{Indexed}
 use Rattle.transactions.specs.Walk.{rest_at}
-use Rattle.files.proofs.Transactions.{Inv, xs}
+use Rattle.files.proofs.Transactions.{Inv}
 use Rattle.search.specs.Levels.{sets_of}
 use Rattle.search.proofs.search_transactions.Given as goal
 

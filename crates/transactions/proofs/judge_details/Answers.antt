@@ -2,7 +2,7 @@
 -- Assumes nothing.
 use Prim.Native.Nat.{◌≤◌}
 use native.Mathlib.Omega.{arith}
-use mathlib.Core.Path.{◌≡◌, refl}
+use mathlib.Core.Path.{refl}
 use mathlib.Core.Bool.{◌&&◌}
 use lib.ListN.{length}
 use Rattle.format.specs.Structure.{most_records}
@@ -11,8 +11,8 @@ use Rattle.rules.specs.Tables.{Tables}
 use Rattle.tables.specs.Index.{Indexed}
 use Rattle.kinds.proofs.Laws.{hinted}
 use Rattle.structure.proofs.Rows.{in_table}
-use Rattle.transactions.specs.Walk.{rest_at, Prepared, Turned}
-use Rattle.transactions.specs.Purposes.{is_search, DoneDetails}
+use Rattle.transactions.specs.Walk.{rest_at}
+use Rattle.transactions.specs.Purposes.{is_search}
 use Rattle.transactions.proofs.Entries.{entry-room}
 use Rattle.transactions.proofs.Laws.{own-worst, none_left, is-detail}
 use Rattle.transactions.proofs.Purposes.{done_none, done_on, done-early, same-lengths, writes, tells}
@@ -39,12 +39,12 @@ row_at-row-requires c =
 pub shape_of-verdicts-then-row-searched : goal.shape_of-verdicts-then-row-searched
 shape_of-verdicts-then-row-searched c =
     let some = c.requires.prepared in
-    (same-lengths (done c.loop-rejects.invariant some.0 some.1) _ c.requires.file_len_bound.3).0
+    (same-lengths (done c.loop-rejects.invariant some.0 some.1)).0
 
 pub shape_of-findings-then-row-searched : goal.shape_of-findings-then-row-searched
 shape_of-findings-then-row-searched c =
     let some = c.requires.prepared in
-    (same-lengths (done c.loop-rejects.invariant some.0 some.1) _ c.requires.file_len_bound.3).1
+    (same-lengths (done c.loop-rejects.invariant some.0 some.1)).1
 
 pub returns-then-row-searched : goal.returns-then-row-searched
 returns-then-row-searched c =

@@ -4,7 +4,7 @@ use Rattle.rules.specs.Tables.{Tables}
 use Rattle.tables.specs.Index.{Indexed}
 use Rattle.transactions.specs.Walk.{rest_at}
 use Rattle.transactions.specs.Purposes.{DoneDetails}
-use Rattle.transactions.proofs.Gone.{Inv, ds}
+use Rattle.transactions.proofs.Gone.{Inv}
 use Rattle.transactions.proofs.judge_details.Given as goal
 
 abbrev pub invariant-loop-rejects : goal.invariant-loop-rejects

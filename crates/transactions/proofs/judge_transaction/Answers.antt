@@ -1,14 +1,10 @@
 -- `transactions::judge_transaction` meets its contract. Assumes nothing.
-use Prim.Native.Nat.{◌+◌}
 use native.Mathlib.Omega.{arith}
 use mathlib.Core.Path.{refl}
-use lib.ListN.{length}
-use Rattle.format.specs.Table.{head}
 use Rattle.tables.specs.Index.{Indexed}
 use Rattle.rules.specs.Tables.{Tables}
-use Rattle.headers.specs.Headed.{Headed}
 use Rattle.buffers.proofs.Entries.{kept-v, kept-f}
-use Rattle.transactions.specs.Walk.{rest_at, tail_of, front_of, Position, PastDetails}
+use Rattle.transactions.specs.Walk.{rest_at, front_of}
 use Rattle.transactions.proofs.Entries.{room-kept, entry-room}
 use Rattle.transactions.proofs.Levels.{standing}
 use Rattle.transactions.proofs.Fronts.{after-header, details-left, past-header, past-below, filled-whole}
