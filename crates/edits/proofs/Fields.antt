@@ -16,9 +16,9 @@ use Rattle.edits.proofs.Types.{clash, not-other, not_third}
 
 -- ---- bytes compared
 
-pub one-blank : (b : ℕ) → is_blank (b ∷ []) ≡ eqb b 32
+pub one_blank : (b : ℕ) → is_blank (b ∷ []) ≡ eqb b 32
 unfolding is_blank
-one-blank b = and-true (eqb b 32)
+one_blank b = and-true (eqb b 32)
 
 pub one_same : (a b : ℕ) → same_bytes (a ∷ []) (b ∷ []) ≡ eqb a b
 one_same a b = and-true (eqb a b)

@@ -15,7 +15,7 @@ use Rattle.format.specs.Fields.{field_of, is_digit, are_digits, digit, number_of
 use Rattle.rules.specs.Records.{is_publisher, only, latest}
 use Rattle.rules.specs.Publisher.{sequence_number, follows}
 use Rattle.format.proofs.Tests.{by_cases, both, same→eq}
-use Rattle.values.proofs.Laws.{spelled, digits-two, number-two}
+use Rattle.values.proofs.Laws.{spelled, digits_two, number_two}
 use Rattle.edits.specs.Kinds.{PublisherRecord}
 use Rattle.edits.specs.Sequences.{sequence_of, sequence_in, last_sequence}
 use Rattle.edits.specs.declared.publisher.Sequence.{Sequence}
@@ -63,10 +63,10 @@ digit-is b h = (leb-true 48 b (both (leb 48 b) (leb b 57) h).0, rw h)
 
 writes_one : (a b : ℕ) → are_digits (a ∷ b ∷ []) ≡ true → number_of (a ∷ b ∷ []) ≡ 1 → (48 ≡ a) × (49 ≡ b)
 writes_one a b d n =
-    let (da, db) = both (is_digit a) (is_digit b) (digits-two a b ∙ d) in
+    let (da, db) = both (is_digit a) (is_digit b) (digits_two a b ∙ d) in
     let (la, ea) = digit-is a da in
     let (lb, eb) = digit-is b db in
-    (omega (arith, number-two a b), omega (arith, number-two a b))
+    (omega (arith, number_two a b), omega (arith, number_two a b))
 
 module _ (f : Bytes) (two : length f ≡ 2) where
   one-is : are_digits f ≡ true → number_of f ≡ 1 → same_bytes (ascii "01") f ≡ true

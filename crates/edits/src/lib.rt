@@ -53,6 +53,7 @@ pub fn gather(first: usize, holds: &[bool]) -> Found
 }
 
 // Whether a code is this one.
+#[tactic(auto, using(text::proofs::Laws::sliced))]
 pub fn is_code(code: &[u8], name: &[u8]) -> bool
     ensures { result ≡ same_bytes name.now code.now }
 {

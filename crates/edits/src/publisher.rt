@@ -181,6 +181,7 @@ fn follows(last: Sequence, here: Sequence) -> bool
 
 impl Publisher {
     // The number does not follow.
+    #[tactic(auto, unfolding(rules::specs::Publisher::is25))]
     fn found_25(self, last: Sequence) -> bool
         ensures { (before : List Bytes) → last ≡ last_sequence before → FindsPublisher self result (is25 before) }
     {
@@ -224,6 +225,7 @@ impl Publisher {
     // ---- the indicator and the name
 
     // Name blank where SPU, or OPU whose indicator isn't Y.
+    #[tactic(auto, using(crate::proofs::Fields::one_same), unfolding(rules::specs::Publisher::is27))]
     fn found_27(self, record: &Record) -> bool
         ensures { PublisherReads self «record».now → result ≡ is27 «record».now }
     {
@@ -231,6 +233,7 @@ impl Publisher {
     }
 
     // SPU indicator not blank.
+    #[tactic(auto, using(crate::proofs::Fields::one_blank), unfolding(rules::specs::Publisher::is29))]
     fn found_29(self) -> bool
         ensures { FindsPublisher self result is29 }
     {
@@ -238,6 +241,7 @@ impl Publisher {
     }
 
     // OPU indicator not blank, Y or N.
+    #[tactic(auto, using(crate::proofs::Fields::one_blank, crate::proofs::Fields::one_same), unfolding(rules::specs::Publisher::is33))]
     fn found_33(self) -> bool
         ensures { FindsPublisher self result is33 }
     {
@@ -246,6 +250,7 @@ impl Publisher {
     }
 
     // OPU indicator Y with a name.
+    #[tactic(auto, using(crate::proofs::Fields::one_same), unfolding(rules::specs::Publisher::is34))]
     fn found_34(self, record: &Record) -> bool
         ensures { PublisherReads self «record».now → result ≡ is34 «record».now }
     {

@@ -48,6 +48,7 @@ impl Rights {
 }
 
 impl Totals {
+    #[tactic(auto, unfolding(rules::specs::Totals::publishers_total, rules::specs::Totals::writers_total))]
     pub fn zero() -> Totals
         ensures { Sums result [] × Below 0 result }
     {
@@ -90,6 +91,7 @@ impl Totals {
     }
 
     // Finding 1: the publishers' totals are too high.
+    #[tactic(auto, unfolding(rules::specs::Totals::is1))]
     pub fn found_1(self, t: Tolerance) -> bool
         ensures { (ds : List Bytes) → Sums self ds → result ≡ is1 t ds }
     {
@@ -100,6 +102,7 @@ impl Totals {
     }
 
     // Finding 2: the writers' total for performing rights is more than small change and less than half, or one of theirs is too high.
+    #[tactic(auto, unfolding(rules::specs::Totals::is2))]
     pub fn found_2(self, t: Tolerance) -> bool
         ensures { (ds : List Bytes) → Sums self ds → result ≡ is2 t ds }
     {
@@ -111,6 +114,7 @@ impl Totals {
     }
 
     // Finding 3: some right is neither without shares nor shared out in full.
+    #[tactic(auto, unfolding(rules::specs::Totals::is3))]
     pub fn found_3(self, t: Tolerance) -> bool
         requires { Below (2 ^ 60) self }
         ensures { (ds : List Bytes) → Sums self ds → result ≡ is3 t ds }

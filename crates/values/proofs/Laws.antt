@@ -35,13 +35,13 @@ spelled n l h = sym (rest n 0 l (omega arith))
 
 -- ---- two bytes at a time
 
-pub digits-two : (a b : ℕ) → (is_digit a && is_digit b) ≡ are_digits (a ∷ b ∷ [])
+pub digits_two : (a b : ℕ) → (is_digit a && is_digit b) ≡ are_digits (a ∷ b ∷ [])
 unfolding are_digits
-digits-two a b = simp and-true
+digits_two a b = simp and-true
 
-pub number-two : (a b : ℕ) → 10 * digit a + digit b ≡ number_of (a ∷ b ∷ [])
+pub number_two : (a b : ℕ) → 10 * digit a + digit b ≡ number_of (a ∷ b ∷ [])
 unfolding number_of
-number-two a b = omega arith
+number_two a b = omega arith
 
 digits-on : (a b : ℕ) (l : Bytes) → (are_digits (a ∷ b ∷ []) && are_digits l) ≡ are_digits (a ∷ b ∷ l)
 unfolding are_digits
@@ -73,7 +73,7 @@ pub month : (y m : ℕ) → 1 ≤ m → m ≤ 12 → by_rule y m ≡ days_in y m
 unfolding days_in
 month y m g h = rw (← twelve y, value-at (by_rule y) 1 12 (m - 1) (omega arith)) (ap (by_rule y) {x = m} {y = 1 + (m - 1)} (omega arith))
 
-pub date-is : (l : Bytes) → length l ≡ 8
+pub date_is : (l : Bytes) → length l ≡ 8
     → ((are_digits (get_or l 0 0 ∷ get_or l 1 0 ∷ [])
     && (are_digits (get_or l 2 0 ∷ get_or l 3 0 ∷ [])
     && (are_digits (get_or l 4 0 ∷ get_or l 5 0 ∷ []) && are_digits (get_or l 6 0 ∷ get_or l 7 0 ∷ []))))
@@ -81,16 +81,16 @@ pub date-is : (l : Bytes) → length l ≡ 8
     (number_of (get_or l 4 0 ∷ get_or l 5 0 ∷ [])) (number_of (get_or l 6 0 ∷ get_or l 7 0 ∷ [])))
     ≡ is_date l
 unfolding is_date field_of
-date-is l h = rw (digits-on, digits-on, digits-on, number-four) (ap is_date (spelled 8 l h))
+date_is l h = rw (digits-on, digits-on, digits-on, number-four) (ap is_date (spelled 8 l h))
 
 -- ---- a duration
 
-pub duration-is : (l : Bytes) → length l ≡ 6
+pub duration_is : (l : Bytes) → length l ≡ 6
     → ((are_digits (get_or l 0 0 ∷ get_or l 1 0 ∷ []) && (are_digits (get_or l 2 0 ∷ get_or l 3 0 ∷ []) && are_digits (get_or l 4 0 ∷ get_or l 5 0 ∷ [])))
     && leb (number_of (get_or l 2 0 ∷ get_or l 3 0 ∷ [])) 59 && leb (number_of (get_or l 4 0 ∷ get_or l 5 0 ∷ [])) 59)
     ≡ is_duration l
 unfolding is_duration field_of
-duration-is l h = rw (digits-on, digits-on) (ap is_duration (spelled 6 l h))
+duration_is l h = rw (digits-on, digits-on) (ap is_duration (spelled 6 l h))
 
 -- ---- an ISWC
 
@@ -107,25 +107,25 @@ pub sum_is : (l : Bytes) → length l ≡ 11
     → sum_of (get_or l 1 0) (get_or l 2 0) (get_or l 3 0) (get_or l 4 0) (get_or l 5 0) (get_or l 6 0) (get_or l 7 0) (get_or l 8 0) (get_or l 9 0) (get_or l 10 0) ≡ iswc_sum l
 sum_is l h = sum-of _ _ _ _ _ _ _ _ _ _ _ ∙ ap iswc_sum (spelled 11 l h)
 
-pub first-is : (l : Bytes) → length l ≡ 11 → eqb 84 (get_or l 0 0) ≡ same_bytes (ascii "T") (field_of 1 1 l)
+pub first_is : (l : Bytes) → length l ≡ 11 → eqb 84 (get_or l 0 0) ≡ same_bytes (ascii "T") (field_of 1 1 l)
 unfolding field_of
-first-is l h = sym (and-true (eqb 84 (get_or l 0 0))) ∙ ap (λ (x : Bytes). same_bytes (ascii "T") (field_of 1 1 x)) (spelled 11 l h)
+first_is l h = sym (and-true (eqb 84 (get_or l 0 0))) ∙ ap (λ (x : Bytes). same_bytes (ascii "T") (field_of 1 1 x)) (spelled 11 l h)
 
-pub ten-are : (l : Bytes) → length l ≡ 11
+pub ten_are : (l : Bytes) → length l ≡ 11
     → (are_digits (get_or l 1 0 ∷ get_or l 2 0 ∷ [])
     && (are_digits (get_or l 3 0 ∷ get_or l 4 0 ∷ [])
     && (are_digits (get_or l 5 0 ∷ get_or l 6 0 ∷ [])
     && (are_digits (get_or l 7 0 ∷ get_or l 8 0 ∷ []) && are_digits (get_or l 9 0 ∷ get_or l 10 0 ∷ [])))))
     ≡ are_digits (field_of 2 10 l)
 unfolding field_of
-ten-are l h = rw (digits-on, digits-on, digits-on, digits-on) (ap (λ (x : Bytes). are_digits (field_of 2 10 x)) (spelled 11 l h))
+ten_are l h = rw (digits-on, digits-on, digits-on, digits-on) (ap (λ (x : Bytes). are_digits (field_of 2 10 x)) (spelled 11 l h))
 
 -- ---- a share
 
-pub five-are : (l : Bytes) → length l ≡ 5
+pub five_are : (l : Bytes) → length l ≡ 5
     → (are_digits (get_or l 0 0 ∷ get_or l 1 0 ∷ []) && (are_digits (get_or l 2 0 ∷ get_or l 3 0 ∷ []) && is_digit (get_or l 4 0))) ≡ are_digits l
-five-are l h = rw (digits-one, digits-on, digits-on) (ap are_digits (spelled 5 l h))
+five_are l h = rw (digits-one, digits-on, digits-on) (ap are_digits (spelled 5 l h))
 
-pub five-number : (l : Bytes) → length l ≡ 5
+pub five_number : (l : Bytes) → length l ≡ 5
     → 1000 * number_of (get_or l 0 0 ∷ get_or l 1 0 ∷ []) + 10 * number_of (get_or l 2 0 ∷ get_or l 3 0 ∷ []) + digit (get_or l 4 0) ≡ number_of l
-five-number l h = number-five _ _ _ _ _ ∙ ap number_of (spelled 5 l h)
+five_number l h = number-five _ _ _ _ _ ∙ ap number_of (spelled 5 l h)

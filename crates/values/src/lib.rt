@@ -10,6 +10,7 @@ ghost use Rattle.rules.specs.Values.{full_share, largest_tolerance, share_of, ba
 use std::marker::Model;
 
 // Whether each byte is a zero, as it is in an empty field.
+#[tactic(auto, unfolding(rules::specs::Values::are_zeros))]
 pub fn zeros(field: &[u8]) -> bool
     ensures { result ≡ are_zeros field.now }
 {
@@ -19,6 +20,7 @@ pub fn zeros(field: &[u8]) -> bool
 // ---- two bytes
 
 // Whether both are digits.
+#[tactic(auto, using(crate::proofs::Laws::digits_two))]
 pub fn are_digits(a: u8, b: u8) -> bool
     ensures { result ≡ are_digits (a ∷ b ∷ []) }
 {
@@ -26,6 +28,7 @@ pub fn are_digits(a: u8, b: u8) -> bool
 }
 
 // The number that they write.
+#[tactic(auto, using(crate::proofs::Laws::number_two))]
 pub fn number(a: u8, b: u8) -> u64
     ensures value { result ≡ number_of (a ∷ b ∷ []) }
     ensures upper_bound { result ≤ 99 }
@@ -43,6 +46,7 @@ fn leap_year(y: u64) -> bool
 
 // Computed, so that no list of months is loaded. Up to July the odd months have 31 days and from August on the even ones: the eighth part,
 // which is 1 from there on, turns them about.
+#[tactic(auto, using(crate::proofs::Laws::month))]
 fn days_in(y: u64, m: u64) -> u64
     requires { (1 ≤ m) × (m ≤ 12) }
     ensures { result ≡ days_in y m }
@@ -57,6 +61,7 @@ fn is_day(y: u64, m: u64, d: u64) -> bool
     (1..=12).contains(&m) && (1 <= y) & (1 <= d) & (d <= days_in(y, m))
 }
 
+#[tactic(auto, using(crate::proofs::Laws::date_is))]
 pub fn date(field: &[u8]) -> bool
     requires { length field.now ≡ 8 }
     ensures { result ≡ is_date field.now }
@@ -70,6 +75,7 @@ pub fn date(field: &[u8]) -> bool
 
 // ---- a duration
 
+#[tactic(auto, using(crate::proofs::Laws::duration_is))]
 pub fn duration(field: &[u8]) -> bool
     requires { length field.now ≡ 6 }
     ensures { result ≡ is_duration field.now }
@@ -85,6 +91,7 @@ pub fn duration(field: &[u8]) -> bool
 const LEAD: u64 = 1;
 
 // The sum that is a multiple of 10 where the last digit is right.
+#[tactic(auto, using(crate::proofs::Laws::sum_is))]
 fn iswc_sum(field: &[u8]) -> u64
     requires { length field.now ≡ 11 }
     ensures { result ≡ iswc_sum field.now }
@@ -101,6 +108,7 @@ fn iswc_sum(field: &[u8]) -> u64
         + text::digit(field[10])
 }
 
+#[tactic(auto, using(crate::proofs::Laws::ten_are))]
 fn ten_digits(field: &[u8]) -> bool
     requires { length field.now ≡ 11 }
     ensures { result ≡ are_digits (field_of 2 10 field.now) }
@@ -111,6 +119,7 @@ fn ten_digits(field: &[u8]) -> bool
                 & (are_digits(field[7], field[8]) & are_digits(field[9], field[10]))))
 }
 
+#[tactic(auto, using(crate::proofs::Laws::first_is), unfolding(rules::specs::Values::is_iswc))]
 pub fn iswc(field: &[u8]) -> bool
     requires { length field.now ≡ 11 }
     ensures { result ≡ is_iswc field.now }
@@ -177,6 +186,7 @@ impl Share {
         }
     }
 
+    #[tactic(auto, using(crate::proofs::Laws::five_are, crate::proofs::Laws::five_number), unfolding(rules::specs::Values::share_of, rules::specs::Values::bad_share))]
     pub fn read(field: &[u8], most: u64) -> Share
         requires { length field.now ≡ 5 }
         ensures counts_value { (result.counts ≡ share_of field.now) × (result.counts ≤ 99999) }
