@@ -164,5 +164,5 @@ nowhere-broken : (b : Bool) (at : Spot) → nowhere (cond b none (some at)) ≡ 
 nowhere-broken true at = refl
 nowhere-broken false at = refl
 
-pub broken-is : (o : Order) (ds : List Bytes) → standing o ≡ reached ds → o.broken ≡ is8 ds
-broken-is o ds e = sym (nowhere-broken o.broken (spot_of o)) ∙ ap nowhere e ∙ nowhere-is ds
+pub broken_is : (o : Order) (ds : List Bytes) → standing o ≡ reached ds → o.broken ≡ is8 ds
+broken_is o ds e = sym (nowhere-broken o.broken (spot_of o)) ∙ ap nowhere e ∙ nowhere-is ds

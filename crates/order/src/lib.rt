@@ -22,6 +22,7 @@ pub struct Order {
 
 impl Order {
     // Before the first record.
+    #[tactic(auto, unfolding(crate::specs::Walk::reached))]
     pub fn outset() -> Order
         ensures { standing result ≡ reached [] }
     {
@@ -52,6 +53,7 @@ impl Order {
     }
 
     // Whether the records were out of order.
+    #[tactic(auto, using(crate::proofs::Laws::broken_is))]
     pub fn found_8(self) -> bool
         ensures { (ds : List Bytes) → standing self ≡ reached ds → result ≡ is8 ds }
     {

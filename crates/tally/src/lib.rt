@@ -30,6 +30,7 @@ pub struct Tally {
 
 impl Tally {
     // Before the first detail.
+    #[tactic(auto, unfolding(edits::specs::Sequences::last_sequence))]
     pub fn start() -> Tally
         ensures { Known result [] }
     {

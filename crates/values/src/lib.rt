@@ -158,7 +158,8 @@ impl Tolerance {
     }
 }
 
-// A share field as it is read: what it counts, 0 where it isn't five digits; and whether it isn't, or is over the most that it may be.
+// A share field as it is read: what it counts, 0 where it isn't five digits; and whether it isn't, or is over the most that it may be. No
+// Option: a share that is over the most still counts.
 #[derive(Clone, Copy)]
 pub struct Share {
     pub counts: u64,
