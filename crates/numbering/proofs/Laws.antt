@@ -18,11 +18,10 @@ use Rattle.kinds.specs.Rows.{row_for, shape_of}
 use Rattle.kinds.specs.declared.Row.{Row}
 use Rattle.kinds.specs.declared.Shape.{Shape}
 use Rattle.lines.specs.Scan.{text_length}
-use Rattle.counts.specs.Counting.{counts_in, Kept}
-use Rattle.counts.specs.declared.Counts.{Counts as CodeCounts}
+use Rattle.counts.specs.Counting.{counts_in}
 use Rattle.structure.specs.Rest.{is_good}
 use Rattle.structure.specs.Walk.{Bounded, Next}
-use Rattle.structure.specs.declared.Stand.{Stand}
+use Rattle.structure.specs.declared.standing.Stand.{Stand}
 use Rattle.structure.proofs.Rows.{row-six}
 use Rattle.structure.proofs.Turns.{bounded-start, bounded-on}
 use Rattle.structure.proofs.Cursor.{to_end}
@@ -78,16 +77,15 @@ pub record Filling (f old : Bytes) (out : Bytes) (s : Stand) : Type 0 where
   pub owed : take s.at out ++ unlines (number (counts_in s.counts) (map (held cwr22) (records_in (lines (drop s.at f))))) ≡ numbered_file cwr22 f
   pub kept : drop s.at out ≡ drop s.at old
 
-pub filling-start : (f old : Bytes) → Sized f → (n : CodeCounts) → counts_in n ≡ none_counted → Kept n → n.records ≡ 0
-    → Filling f old old (record { at = 0; class = 6; counts = n })
+pub filling-start : (f old : Bytes) → Sized f → (s : Stand) → (s.at ≡ 0) × (s.class ≡ 6) → counts_in s.counts ≡ none_counted → Filling f old old s
 unfolding numbered_file
-filling-start f old s n e w z =
+filling-start f old sized s e n =
     record {
-      bounded = bounded-start f n w z;
-      fine = s.fine;
-      all = s.typed;
+      bounded = bounded-start f s e;
+      fine = rw e.0 sized.fine;
+      all = rw e.0 sized.typed;
       same = refl;
-      owed = rw e;
+      owed = rw (e.0, n);
       kept = refl;
     }
 

@@ -14,7 +14,6 @@ ghost use Rattle.numbering.specs.Fill.{Sized};
 
 use answers::{Answer, Refusal};
 use counts::Counts;
-use kinds::UNKNOWN;
 use structure::Stand;
 
 // One line, with its CR LF: copied, and its numbers written over what stood there.
@@ -35,12 +34,7 @@ fn fill(file: &[u8], out: &mut [u8])
     ensures { out.new ≡ numbered_file cwr22 file.now ++ drop (length file.now) out.old }
 {
     let rows = kinds::table();
-    let none = Counts::zero();
-    let mut s = Stand {
-        at: 0,
-        class: UNKNOWN,
-        counts: none,
-    };
+    let mut s = Stand::start();
     while s.at < file.len() {
         let at = s.at;
         let counts = s.counts;
@@ -48,7 +42,7 @@ fn fill(file: &[u8], out: &mut [u8])
         let shape = kinds::confirmed(rows[k], &file[at..]);
         let end = at + shape.size() + 2;
         number_line(&file[at..end], &mut out[at..end], shape.class, counts);
-        s = structure::after_record(s, shape.length, shape.class);
+        s = s.after_record(shape.length, shape.class);
     }
 }
 

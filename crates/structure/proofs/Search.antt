@@ -19,7 +19,7 @@ use Rattle.lines.specs.Scan.{text_length}
 use Rattle.counts.specs.Counting.{counts_in}
 use Rattle.structure.specs.Rest.{judged_from, more_faults, at_end, is_good}
 use Rattle.structure.specs.Walk.{Bounded, Next, faults_of}
-use Rattle.structure.specs.declared.Stand.{Stand}
+use Rattle.structure.specs.declared.standing.Stand.{Stand}
 use Rattle.structure.specs.declared.FirstFaults.{FirstFaults}
 use Rattle.structure.proofs.Rest.{judged-turn, judged-type, judged-end}
 use Rattle.structure.proofs.Rows.{row-class, row_typed, row-six}

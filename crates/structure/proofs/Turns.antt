@@ -13,18 +13,17 @@ use borrow.Author.Tests.{eq-eqb, ne_eqb}
 use Rattle.format.specs.Bytes.{Bytes, every, is_text, same_bytes, begins_pair}
 use Rattle.format.specs.Table.{Class}
 use Rattle.format.specs.Cwr22.{cwr22}
-use Rattle.format.specs.Checks.{Counts, count, class_at, cls, typed, may_follow, slot, expected, closes, rightly_numbered, ok8, ok9}
+use Rattle.format.specs.Checks.{Counts, none_counted, count, class_at, cls, typed, may_follow, slot, expected, closes, rightly_numbered, ok8, ok9}
 use Rattle.format.specs.Structure.{unless}
 use Rattle.kinds.specs.Rows.{kinds, row_for, type_of}
 use Rattle.kinds.specs.declared.Row.{Row}
 use Rattle.format.proofs.Tests.{both}
 use Rattle.kinds.proofs.Laws.{first_three, hinted}
 use Rattle.lines.proofs.Laws.{every-text, pair-after}
-use Rattle.counts.specs.Counting.{counts_in, Kept}
-use Rattle.counts.specs.declared.Counts.{Counts as CodeCounts}
+use Rattle.counts.specs.Counting.{counts_in}
 use Rattle.structure.specs.Rest.{or_else, Faults, rest_from, more_faults}
 use Rattle.structure.specs.Walk.{Roomy, Bounded, Stood, RightAt, Next}
-use Rattle.structure.specs.declared.Stand.{Stand}
+use Rattle.structure.specs.declared.standing.Stand.{Stand}
 use Rattle.structure.proofs.Rest.{rest-turn}
 use Rattle.structure.proofs.Rows.{row-class, row-code, row_typed, in_table, row-roomy}
 use Rattle.structure.proofs.Faults.{or_swap}
@@ -63,8 +62,6 @@ bounded-on f s l p next b h k x =
     record {
       inside = rw x.at k;
       class = rw x.class h;
-      kept = x.kept;
-      few = omega (arith, b.few, x.at, x.records);
     }
 
 module _ (f : Bytes) (asked : Bool) (s : Stand) (row : Row) (next : Stand) where
@@ -149,8 +146,11 @@ module _ (f : Bytes) (asked : Bool) (s : Stand) (row : Row) where
 
 -- ---- the walk's start, and its turn with a row of the table
 
-pub bounded-start : (f : Bytes) (n : CodeCounts) → Kept n → n.records ≡ 0 → Bounded f (record { at = 0; class = 6; counts = n })
-bounded-start f n w z = record { inside = omega arith; class = omega arith; kept = w; few = omega (arith, z) }
+pub bounded-start : (f : Bytes) (s : Stand) → (s.at ≡ 0) × (s.class ≡ 6) → Bounded f s
+bounded-start f s e = record { inside = omega arith; class = omega arith }
+
+pub stood-start : (f : Bytes) (asked : Bool) (s : Stand) → (s.at ≡ 0) × (s.class ≡ 6) → counts_in s.counts ≡ none_counted → Stood f asked s
+stood-start f asked s e n = record { bounded = bounded-start f s e; rest = λ version. rw (e.0, e.1, n) }
 
 module _ (l : List Row) (table : l ≡ kinds) (k : ℕ) (few : k < 38) (d : Row) where
   pub stood-by : (f : Bytes) (asked : Bool) (s next : Stand) → Stood f asked s → RightAt f asked s (get_or l k d)

@@ -7,8 +7,8 @@ use Rattle.format.specs.Cwr22.{cwr22}
 use Rattle.format.specs.Checks.{class_at, none_counted, count, may_follow, slot, expected}
 use Rattle.kinds.specs.Rows.{type_of}
 use Rattle.kinds.specs.declared.Row.{Row}
-use Rattle.counts.specs.Counting.{counts_in, Kept}
-use Rattle.structure.specs.declared.Stand.{Stand}
+use Rattle.counts.specs.Counting.{counts_in}
+use Rattle.structure.specs.declared.standing.Stand.{Stand}
 use Rattle.structure.specs.declared.FirstFaults.{FirstFaults}
 use Rattle.structure.specs.Rest.{Faults, rest_from}
 
@@ -18,12 +18,10 @@ pub record Roomy (r : Row) : Type 0 where
   pub type : 3 ≤ r.length
   pub numbers : at (class_at r.class) + width (class_at r.class) ≤ r.length
 
--- a byte of the file, and counts that no file outgrows
+-- a byte of the file, after a class
 pub record Bounded (f : Bytes) (s : Stand) : Type 0 where
   pub inside : s.at ≤ length f
   pub class : s.class ≤ 6
-  pub kept : Kept s.counts
-  pub few : s.counts.records ≤ s.at
 
 -- all before was right, so the rest decides, whatever is found of the version
 pub record Stood (f : Bytes) (asked : Bool) (s : Stand) : Type 0 where
@@ -46,8 +44,6 @@ pub record Next (s : Stand) (l p : ℕ) (r : Stand) : Type 0 where
   pub at : r.at ≡ s.at + l + 2
   pub class : r.class ≡ p
   pub counts : counts_in r.counts ≡ count (counts_in s.counts) (class_at p)
-  pub kept : Kept r.counts
-  pub records : r.counts.records ≡ s.counts.records + 1
 
 -- the place of a fault as code has it
 abbrev pub fault_in : CodeOption ℕ → Option ℕ

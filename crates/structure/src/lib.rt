@@ -20,13 +20,9 @@ use answers::{Answer, MOST_RECORDS, Passed, Refusal};
 use counts::Counts;
 use kinds::{DETAIL, GRH, GRT, HDR, HEAD, Row, TRL, UNKNOWN};
 
-// Where a walk stands: at a byte of the file, after a record of that class, with these counts.
-#[derive(Clone, Copy)]
-pub struct Stand {
-    pub at: usize,
-    pub class: u8,
-    pub counts: Counts,
-}
+mod standing;
+
+pub use standing::Stand;
 
 // The places of the first faults by 7, 8 and 9 that were met.
 #[derive(Clone, Copy)]
@@ -70,15 +66,17 @@ fn version(record: &[u8]) -> bool
         & (text::number(revision) <= 2)
 }
 
-// After one record more, of that length and class. (Not of a row: where one is handed on, the compiler keeps it in memory.)
-pub fn after_record(s: Stand, length: u16, class: u8) -> Stand
-    requires { (s.at ≤ most_bytes) × (Kept s.counts) × (s.counts.records ≤ s.at) }
-    ensures { Next s length class result }
-{
-    Stand {
-        at: s.at + usize::from(length) + 2,
-        class,
-        counts: s.counts.with(class),
+impl Stand {
+    // After one record more, of that length and class. (Not of a row: where one is handed on, the compiler keeps it in memory.)
+    pub fn after_record(self, length: u16, class: u8) -> Stand
+        requires { self.at ≤ most_bytes }
+        ensures { Next self length class result }
+    {
+        Stand {
+            at: self.at + usize::from(length) + 2,
+            class,
+            counts: self.counts.with(class),
+        }
     }
 }
 
@@ -117,11 +115,7 @@ fn walk(file: &[u8], asked: bool) -> Stand
     ensures { Stood file.now asked result }
 {
     let rows = kinds::table();
-    let mut s = Stand {
-        at: 0,
-        class: UNKNOWN,
-        counts: Counts::zero(),
-    };
+    let mut s = Stand::start();
     loop {
         let [a, b, c, ..] = &file[s.at..] else {
             return s;
@@ -130,7 +124,7 @@ fn walk(file: &[u8], asked: bool) -> Stand
         if !right(file, asked, s, row) {
             return s;
         }
-        s = after_record(s, row.length, row.class);
+        s = s.after_record(row.length, row.class);
     }
 }
 
@@ -152,7 +146,7 @@ fn shaped(row: Row, record: &[u8]) -> bool
 
 // The faults met with this record, which is of that row and right by 6.
 fn more(asked: bool, s: Stand, m: FirstFaults, record: &[u8], row: Row) -> FirstFaults
-    requires class_bound { (s.class ≤ 6) × (Kept s.counts) × (s.counts.records ≤ most_bytes) }
+    requires class_bound { (s.class ≤ 6) × (s.counts.records ≤ most_bytes) }
     requires row_value { (row ≡ row_for (take 3 «record».now)) × (typed cwr22 «record».now ≡ true) }
     ensures { faults_of result ≡ more_faults cwr22 asked (faults_of m) (class_at s.class) (counts_in s.counts) «record».now }
 {
@@ -213,7 +207,7 @@ fn judge(file: &[u8], asked: bool, version: bool, start: Stand) -> Answer
             return Err(Refusal::Shape(s.counts.records as usize));
         }
         m = more(asked, s, m, record, row);
-        s = after_record(s, row.length, row.class);
+        s = s.after_record(row.length, row.class);
     }
     ended(version, s, m)
 }

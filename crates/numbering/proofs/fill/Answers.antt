@@ -11,9 +11,7 @@ use Rattle.numbering.proofs.Laws.{filling-start, filling-end, filling-on, three_
 use Rattle.numbering.proofs.fill.Goals as goal
 
 pub loop-s-init : goal.loop-s-init
-loop-s-init c =
-    let z = c.zero-none in
-    filling-start c.args.file.now c.args.out.now c.requires.0 z.result z.ensures.result_value z.ensures.can_grow.0.0 z.ensures.can_grow.1
+loop-s-init c = filling-start c.args.file.now c.args.out.now c.requires.0 c.start-s.result c.start-s.ensures.place c.start-s.ensures.counts
 
 pub confirmed-shape-requires : goal.confirmed-shape-requires
 confirmed-shape-requires c =
@@ -40,7 +38,7 @@ number_line-requires c =
     let line = mid_len i e c.args.file.now end in
     let part = mid_len i e c.loop-s.out (omega (arith, end, c.requires.1, F.same)) in
     let fit = room F c.loop-s-test.true c.confirmed-shape.ensures in
-    (part ∙ sym line, (b.kept, omega (arith, b.few, b.inside, c.requires.0.short)), omega (arith, line, fit, c.size.ensures))
+    (part ∙ sym line, (c.loop-s.s.kept, omega (arith, c.loop-s.s.few, b.inside, c.requires.0.short)), omega (arith, line, fit, c.size.ensures))
 
 pub loop-s-preserved : goal.loop-s-preserved
 loop-s-preserved c =

@@ -11,7 +11,7 @@ use Rattle.structure.proofs.more.Goals as goal
 pub numbered-held-requires : goal.numbered-held-requires
 numbered-held-requires c =
     let g = c.args in
-    ((c.requires.class_bound.1, omega arith), row_room g.«record».now g.row c.requires.row_value.0 c.requires.row_value.1)
+    ((g.s.kept, omega (arith, c.requires.class_bound.1)), row_room g.«record».now g.row c.requires.row_value.0 c.requires.row_value.1)
 
 pub follows-requires : goal.follows-requires
 follows-requires c =

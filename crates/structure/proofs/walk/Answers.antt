@@ -1,7 +1,10 @@
 -- `structure::walk` meets its contract: where it stands, all before was right.
-use Rattle.structure.proofs.Turns.{stood-by}
+use Rattle.structure.proofs.Turns.{stood-start, stood-by}
 use Rattle.structure.proofs.Rows.{row-roomy}
 use Rattle.structure.proofs.walk.Goals as goal
+
+pub loop-s-init : goal.loop-s-init
+loop-s-init c = stood-start c.args.file.now c.args.asked c.start-s.result c.start-s.ensures.place c.start-s.ensures.counts
 
 pub right-requires : goal.right-requires
 right-requires c =
