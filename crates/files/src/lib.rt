@@ -29,6 +29,7 @@ pub struct Next {
 }
 
 // The entry of a record that has no finding: HDR, GRH, GRT or TRL.
+// Verdicts and findings go on as C lends them, two buffers: what they have room for is said once, by `Room`.
 fn settle_control(index: usize, verdicts: &mut [u8], findings: &mut [u8])
     requires { (index < length verdicts.old) × (8 * (index + 1) ≤ length findings.old) }
     ensures { Filled index (index + 1) (0 ∷ []) ([] ∷ [])
