@@ -33,6 +33,7 @@ fn lent_right(tables: Tables, tolerance: u64) -> Result<(), Refusal>
 }
 
 // Each ground over the whole file before the next.
+#[tactic(auto, unfolding(rules::specs::Outcome::admission))]
 pub fn admit(file: &[u8], tables: Tables, tolerance: u64) -> Answer
     ensures { answer_of result ≡ admission (lent_in tables.entry) tolerance file.now }
 {
@@ -41,6 +42,7 @@ pub fn admit(file: &[u8], tables: Tables, tolerance: u64) -> Answer
 }
 
 // The same with a territory table, which is looked at before the file.
+#[tactic(auto, unfolding(rules::specs::WithTerritories::admission_with))]
 pub fn admit_with(file: &[u8], tables: Tables, territories: &[u8], tolerance: u64) -> Answer
     ensures { answer_of result ≡ admission_with (lent_in tables.entry) territories.now tolerance file.now }
 {

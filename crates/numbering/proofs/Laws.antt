@@ -28,12 +28,6 @@ use Rattle.structure.proofs.Cursor.{to_end}
 use Rattle.structure.proofs.Here.{record_at, fits, here-three, long, records-here, fine-after, all_after, line-here, row-size, row-numbers, row_is}
 use Rattle.numbering.specs.Fill.{Sized}
 
--- ---- a line that was copied whole, and its numbers put over it
-
-pub line-over : (l x y : Bytes) (c : Class) (n : Bytes) → x ≡ l
-    → y ≡ take (at c) x ++ n ++ drop (at c + width c) x → y ≡ take (at c) l ++ n ++ drop (at c + width c) l
-line-over l x y c n e w = rw e at w
-
 -- ---- a buffer with ys in the place of what stood from i to e
 
 module _ (out ys : Bytes) (i e : ℕ) (h : i ≤ e) (g : e ≤ length out) (l : length ys ≡ e - i) where

@@ -7,7 +7,3 @@ use Rattle.admission.proofs.admit.Goals as goal
 pub returns-in_err-lent_right : goal.returns-in_err-lent_right
 unfolding admission
 returns-in_err-lent_right c = handed-on _ _ c.from_residual.ensures.1 ∙ c.in_err-lent_right.ensures.then _
-
-pub returns : goal.returns
-unfolding admission
-returns c = c.check.ensures ∙ c.in_ok-lent_right.ensures.then _
