@@ -19,14 +19,13 @@ ghost use Rattle.kinds.specs.Rows.{row_for};
 ghost use Rattle.edits.specs.Kinds.{Stands};
 ghost use Rattle.structure.specs.Cursor.{Here};
 ghost use Rattle.transactions.specs.Walk.{rest_at};
-ghost use Rattle.parties.specs.Records.{ClaimRecord};
 ghost use Rattle.collection.specs.Marked.{with47, with48, raised_if, marked48};
 ghost use Rattle.collection.specs.Walk.{Known, PastDetails, Lent, Standing, Owes, Doubts, Judged, Reached, past_control, steps_left};
 
 use claims::Claim;
 use findings::TR;
 use kinds::{DETAIL, HEAD, PUBLISHER, PUBLISHERS_CLAIM, Row, TRL, WRITER, WRITERS_CLAIM};
-use parties::Largest;
+use parties::{Largest, Record};
 use values::Tolerance;
 
 // ---- the buffers
@@ -90,39 +89,30 @@ pub struct Tally {
 }
 
 // The entry of a claim, for that party.
-fn read(record: &[u8], publishers: bool, places: Places, party: u32) -> Claim
-    requires { ClaimRecord publishers «record».now }
-    ensures { result ≡ entry_of (territories_in places.entry.table.now) party «record».now }
+fn read(record: Record, places: Places, party: u32) -> Claim
+    ensures { result ≡ entry_of (territories_in places.entry.table.now) party «record».entry.bytes.now }
 {
-    let code = parties::code(record, publishers);
-    let place = territories::find(places.table, places.hints, code);
-    parties::entry(
-        record,
-        publishers,
-        place,
-        territories::count(places.table),
-        party,
-    )
+    let place = territories::find(places.table, places.hints, record.code());
+    record.entry(place, territories::count(places.table), party)
 }
 
 // With one claim more, which is that record of the file. An entry without a mark is that of a claim with 48.
 fn judge_claim(
-    record: &[u8],
-    publishers: bool,
+    record: Record,
     index: usize,
     places: Places,
     tally: Tally,
     findings: &mut [u8],
 ) -> Tally
-    requires claim_record { ClaimRecord publishers «record».now × (is_party «record».now ≡ false)
+    requires claim_record { (is_party «record».bytes.now ≡ false)
         × (8 * (index + 1) ≤ length findings.old) }
     requires known { (ds : List Bytes) × Known (territories_in places.table.now) ds tally × (length ds < most_records) }
     ensures known_2 { (ds : List Bytes) → Known (territories_in places.entry.table.now) ds tally
-        → Known (territories_in places.entry.table.now) (ds ++ «record».now ∷ []) result }
+        → Known (territories_in places.entry.table.now) (ds ++ «record».entry.bytes.now ∷ []) result }
     ensures findings_after { findings.new
-        ≡ marked48 (territories_in places.entry.table.now) index («record».now ∷ []) findings.old }
+        ≡ marked48 (territories_in places.entry.table.now) index («record».entry.bytes.now ∷ []) findings.old }
 {
-    let claim = read(record, publishers, places, tally.party);
+    let claim = read(record, places, tally.party);
     let wrong = claim.mark == 0;
     set_48(wrong, index, findings);
     Tally {
@@ -150,14 +140,11 @@ fn judge_detail(
 {
     let sort = row.sort;
     if (sort == PUBLISHERS_CLAIM) | (sort == WRITERS_CLAIM) {
-        return judge_claim(
-            record,
-            sort == PUBLISHERS_CLAIM,
-            index,
-            places,
-            tally,
-            findings,
-        );
+        let claim = Record {
+            bytes: record,
+            publishers: sort == PUBLISHERS_CLAIM,
+        };
+        return judge_claim(claim, index, places, tally, findings);
     }
     if (sort == PUBLISHER) | (sort == WRITER) {
         return Tally {

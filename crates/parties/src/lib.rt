@@ -24,67 +24,79 @@ use values::{Share, Tolerance};
 
 // ---- a claim record
 
-// The field that begins so many bytes after the shares do. A writer's claim lacks the six constant bytes that stand before them in a
-// publisher's.
-fn field(record: &[u8], publishers: bool, on: usize, size: usize) -> &[u8]
-    requires { ClaimRecord publishers «record».now × (on + size ≤ 20) }
-    ensures result_value { result.now ≡ claim_field (35 + on) (29 + on) size «record».now }
-    ensures result_len { length result.now ≡ size }
-{
-    text::field(record, choice::pick(publishers, 35, 29) + on, size)
+// A publisher's claim, or a writer's, as it is lent.
+#[derive(Clone, Copy)]
+pub struct Record<'a> {
+    pub bytes: &'a [u8],
+    pub publishers: bool,
+    pub ghost right: { ClaimRecord publishers bytes.now },
 }
 
 // The most that five digits write.
 const FIVE_NINES: u64 = 99999;
 
-// The share that stands there.
-fn share(record: &[u8], publishers: bool, on: usize) -> Share
-    requires { ClaimRecord publishers «record».now × (on + 5 ≤ 20) }
-    ensures { Reads (claim_field (35 + on) (29 + on) 5 «record».now) result }
-{
-    Share::read(field(record, publishers, on, 5), FIVE_NINES)
-}
+impl<'a> Record<'a> {
+    // The field that begins so many bytes after the shares do. A writer's claim lacks the six constant bytes that stand before them in a
+    // publisher's.
+    fn field(self, on: usize, size: usize) -> &'a [u8]
+        requires { on + size ≤ 20 }
+        ensures result_value { result.now ≡ claim_field (35 + on) (29 + on) size self.entry.bytes.now }
+        ensures result_len { length result.now ≡ size }
+    {
+        text::field(self.bytes, choice::pick(self.publishers, 35, 29) + on, size)
+    }
 
-fn mark(record: &[u8], publishers: bool) -> u8
-    requires { ClaimRecord publishers «record».now }
-    ensures { Collection·mark «record».now ≡ result ∷ [] }
-{
-    let mark = field(record, publishers, 15, 1);
-    mark[0]
-}
+    // The share that stands there.
+    fn share(self, on: usize) -> Share
+        requires { on + 5 ≤ 20 }
+        ensures { Reads (claim_field (35 + on) (29 + on) 5 self.entry.bytes.now) result }
+    {
+        Share::read(self.field(on, 5), FIVE_NINES)
+    }
 
-// The code of the territory that it names.
-pub fn code(record: &[u8], publishers: bool) -> &[u8]
-    requires { ClaimRecord publishers «record».now }
-    ensures result_value { result.now ≡ claimed «record».now }
-    ensures result_len { length result.now ≡ 4 }
-{
-    field(record, publishers, 16, 4)
-}
+    fn mark(self) -> u8
+        ensures { Collection·mark self.entry.bytes.now ≡ result ∷ [] }
+    {
+        let mark = self.field(15, 1);
+        mark[0]
+    }
 
-// Its entry, for that party; that of a claim which is ignored is all zeros. place is where its code stands in a table of so many
-// territories.
-pub fn entry(record: &[u8], publishers: bool, place: usize, count: usize, party: u32) -> Claim
-    requires { ClaimRecord publishers «record».now × (place < 2 ^ 32) }
-    ensures { (T : List Territory) → place ≡ place_of (claimed «record».now) (codes_of T) → count ≡ length T
-        → result ≡ entry_of T party «record».now }
-{
-    let pr = share(record, publishers, 0);
-    let mr = share(record, publishers, 5);
-    let sr = share(record, publishers, 10);
-    let mark = mark(record, publishers);
-    let right = (place < count) & ((b'I' == mark) | (b'E' == mark)) & !pr.bad & !mr.bad & !sr.bad;
-    if right {
-        Claim {
-            party,
-            code: place as u32,
-            mark: u32::from(mark),
-            pr: pr.counts as u32,
-            mr: mr.counts as u32,
-            sr: sr.counts as u32,
+    // The code of the territory that it names.
+    pub fn code(self) -> &'a [u8]
+        ensures result_value { result.now ≡ claimed self.entry.bytes.now }
+        ensures result_len { length result.now ≡ 4 }
+    {
+        self.field(16, 4)
+    }
+
+    // Its entry, for that party; that of a claim which is ignored is all zeros. place is where its code stands in a table of so many
+    // territories.
+    pub fn entry(self, place: usize, count: usize, party: u32) -> Claim
+        requires { place < 2 ^ 32 }
+        ensures { (T : List Territory) → place ≡ place_of (claimed self.entry.bytes.now) (codes_of T) → count ≡ length T
+            → result ≡ entry_of T party self.entry.bytes.now }
+    {
+        let pr = self.share(0);
+        let mr = self.share(5);
+        let sr = self.share(10);
+        let mark = self.mark();
+        let right = (place < count)
+            & ((b'I' == mark) | (b'E' == mark))
+            & !pr.bad
+            & !mr.bad
+            & !sr.bad;
+        if right {
+            Claim {
+                party,
+                code: place as u32,
+                mark: u32::from(mark),
+                pr: pr.counts as u32,
+                mr: mr.counts as u32,
+                sr: sr.counts as u32,
+            }
+        } else {
+            Claim::default()
         }
-    } else {
-        Claim::default()
     }
 }
 
@@ -185,10 +197,12 @@ fn claim_at(file: &[u8], table: &[u8], at: usize, row: Row, party: u32) -> Next
     ensures { Found file.now table.now at party result }
 {
     let end = at + row.size();
-    let record = &file[at..end];
-    let publishers = row.sort == PUBLISHERS_CLAIM;
-    let place = territories::position(table, code(record, publishers));
-    let claim = entry(record, publishers, place, territories::count(table), party);
+    let record = Record {
+        bytes: &file[at..end],
+        publishers: row.sort == PUBLISHERS_CLAIM,
+    };
+    let place = territories::position(table, record.code());
+    let claim = record.entry(place, territories::count(table), party);
     Next {
         at: end + 2,
         party,

@@ -21,8 +21,9 @@ returns c =
     let set = c.set_48.ensures in
     let a = c.args in
     let T = territories_in a.places.table.now in
-    let (kind, no-party, room) = c.requires.claim_record in record {
-      known_2 = λ ds known. known-claim T ds a.tally known a.«record».now no-party kind.1 _ entry _ c.with.ensures;
+    let (no-party, room) = c.requires.claim_record in
+    let kind = a.«record».right in record {
+      known_2 = λ ds known. known-claim T ds a.tally known a.«record».bytes.now no-party kind.1 _ entry _ c.with.ensures;
       findings_after = set ∙ ap (λ b. cond b (with48 a.index a.findings.now) a.findings.now)
-          (ap (λ e. eqb e.mark 0) entry ∙ wrong-marked T a.tally.party a.«record».now kind.1);
+          (ap (λ e. eqb e.mark 0) entry ∙ wrong-marked T a.tally.party a.«record».bytes.now kind.1);
     }

@@ -12,7 +12,13 @@ judge_claim-requires c =
     let a = c.args in
     let ((detail, long), room) = c.requires.stands in
     let sort = c.if-sort.true in
-    record { claim_record = (claim-here a.row a.«record».now detail.0 long sort, claim-no-party a.row a.«record».now detail.0 sort, room); known = c.requires.known }
+    record { claim_record = (claim-no-party a.row a.«record».now detail.0 sort, room); known = c.requires.known }
+
+pub invariant_of-claim : goal.invariant_of-claim
+invariant_of-claim c =
+    let a = c.args in
+    let ((detail, long), room) = c.requires.stands in
+    record { right = claim-here a.row a.«record».now detail.0 long c.if-sort.true }
 
 pub overflow_add-result : goal.overflow_add-result
 overflow_add-result c =

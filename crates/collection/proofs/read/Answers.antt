@@ -12,10 +12,10 @@ entry-requires c =
     let place = c.find-place.ensures in
     let T = territories_in c.args.places.table.now in
     let few = (right-table c.args.places.table.now c.args.places.right).few in
-    (c.requires, omega (arith, place, place-within c.code-code.result.now (codes_of T), length-codes T, few))
+    omega (arith, place, place-within c.code.result.now (codes_of T), length-codes T, few)
 
 pub returns : goal.returns
 returns c =
     let T = territories_in c.args.places.table.now in
-    c.entry.ensures T (c.find-place.ensures ∙ ap (λ code. place_of code (codes_of T)) c.code-code.ensures.result_value)
+    c.entry.ensures T (c.find-place.ensures ∙ ap (λ code. place_of code (codes_of T)) c.code.ensures.result_value)
     c.count.ensures

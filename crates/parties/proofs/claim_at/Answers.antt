@@ -2,7 +2,7 @@
 use Prim.Native.Nat.{◌+◌, ◌-◌}
 use native.Mathlib.Omega.{arith}
 use mathlib.Core.Path.{◌≡◌, ap, ◌∙◌}
-use lib.ListN.{take, drop, length}
+use lib.ListN.{take, drop}
 use Rattle.format.specs.Bytes.{Bytes}
 use Rattle.format.specs.Structure.{first_record}
 use Rattle.rules.specs.Territories.{territories_in, codes_of}
@@ -21,14 +21,14 @@ slice_bounds-record-end c =
     ap (λ n. c.args.at + n) c.size.ensures in
     omega (arith, end, ends c.requires.0.here c.requires.1.0)
 
-pub code-requires : goal.code-requires
-code-requires c =
+pub invariant_of-record : goal.invariant_of-record
+invariant_of-record c =
     let end : c.args.at + c.size.result ≡ c.args.at + c.args.row.length =
     ap (λ n. c.args.at + n) c.size.ensures in
     let record-lent : take (c.args.at + c.size.result - c.args.at) (drop c.args.at c.args.file.now) ≡ first_record (rest_at c.args.file.now c.args.at) =
     lent c.requires.0.here c.requires.1.0 _ end in
     let pre = c.requires in
-    rw record-lent (claim-record pre.0 pre.1.0 pre.1.2)
+    record { right = rw record-lent (claim-record pre.0 pre.1.0 pre.1.2) }
 
 pub entry-claim-requires : goal.entry-claim-requires
 entry-claim-requires c =
@@ -44,10 +44,8 @@ entry-claim-requires c =
     let table = c.args.table.now in
     let few = (right-table table pre.0.right).few in
     let record-here = first_record (rest_at c.args.file.now c.args.at) in
-    let place = place-within (claimed record-here) (codes_of (territories_in table)) in (
-      rw record-lent (claim-record pre.0 pre.1.0 pre.1.2),
-      omega (arith, placed, place, length-codes (territories_in table), few),
-    )
+    let place = place-within (claimed record-here) (codes_of (territories_in table)) in
+    omega (arith, placed, place, length-codes (territories_in table), few)
 
 pub overflow_add-result : goal.overflow_add-result
 overflow_add-result c =

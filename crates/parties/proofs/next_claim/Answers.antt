@@ -2,7 +2,6 @@
 use Prim.Native.Nat.{◌+◌, ◌≤◌}
 use native.Mathlib.Omega.{arith}
 use mathlib.Core.Path.{◌≡◌, refl, ◌∙◌}
-use lib.ListN.{length}
 use Rattle.format.specs.Structure.{most_bytes}
 use Rattle.kinds.proofs.Laws.{hinted}
 use Rattle.structure.proofs.Rows.{in_table}

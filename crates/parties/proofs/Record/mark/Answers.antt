@@ -1,7 +1,7 @@
--- `parties::mark` meets its contract. Assumes nothing.
+-- `parties::Record::mark` meets its contract. Assumes nothing.
 use mathlib.Core.Path.{sym, ◌∙◌}
 use Rattle.values.proofs.Laws.{spelled}
-use Rattle.parties.proofs.mark.Goals as goal
+use Rattle.parties.proofs.Record.mark.Goals as goal
 
 pub returns : goal.returns
 returns c =

@@ -1,8 +1,8 @@
--- `parties::share` meets its contract. Assumes nothing.
+-- `parties::Record::share` meets its contract. Assumes nothing.
 use mathlib.Core.Path.{ap, ◌∙◌}
 use Rattle.rules.specs.Values.{share_of, bad_share}
 use Rattle.parties.proofs.Fields.{reads}
-use Rattle.parties.proofs.share.Goals as goal
+use Rattle.parties.proofs.Record.share.Goals as goal
 
 pub returns : goal.returns
 returns c =
