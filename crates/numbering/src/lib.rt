@@ -27,7 +27,8 @@ fn number_line(line: &[u8], out: &mut [u8], class: u8, counts: Counts)
     counts.put(class, out);
 }
 
-// The file, numbered, at the front of out.
+// The file, numbered, at the front of out. The loop is over a place: each record's row says where the next one begins. The three bytes of its
+// type are known to be there, so they are indexed; a slice pattern would want an arm for fewer.
 #[tactic(auto, using(crate::proofs::Laws::three_bytes, crate::proofs::Laws::ends))]
 fn fill(file: &[u8], out: &mut [u8])
     requires { (Sized file.now) × (length file.now ≤ length out.old) }
@@ -37,11 +38,10 @@ fn fill(file: &[u8], out: &mut [u8])
     let mut s = Stand::start();
     while s.at < file.len() {
         let at = s.at;
-        let counts = s.counts;
         let k = kinds::hint(file[at], file[at + 1], file[at + 2]);
         let shape = kinds::confirmed(rows[k], &file[at..]);
         let end = at + shape.size() + 2;
-        number_line(&file[at..end], &mut out[at..end], shape.class, counts);
+        number_line(&file[at..end], &mut out[at..end], shape.class, s.counts);
         s = s.after_record(shape.length, shape.class);
     }
 }

@@ -102,6 +102,7 @@ fn right(file: &[u8], asked: bool, s: Stand, row: Row) -> bool
     }
     let end = s.at + length;
     let record = &file[s.at..end];
+    // By & and not by &&: no branch between tests that nearly always hold.
     kinds::is_type(row, record[0], record[1], record[2])
         & lines::pair_at(file, end)
         & lines::all_text(record)
@@ -109,7 +110,7 @@ fn right(file: &[u8], asked: bool, s: Stand, row: Row) -> bool
         & numbered(asked, s.counts, row.class, record)
 }
 
-// How far a file is right.
+// How far a file is right. A loop over a place and no `for`: each record's row says where the next record begins.
 fn walk(file: &[u8], asked: bool) -> Stand
     requires { length file.now ≤ most_bytes }
     ensures { Stood file.now asked result }
@@ -187,7 +188,7 @@ fn ended(version: bool, s: Stand, m: FirstFaults) -> Answer
     })
 }
 
-// 6 to 10, from here on, where the lines are good.
+// 6 to 10, from here on, where the lines are good. The loop is over a place, as in `walk`.
 fn judge(file: &[u8], asked: bool, version: bool, start: Stand) -> Answer
     requires { (Bounded file.now start) × (length file.now ≤ most_bytes) × (is_good (lines (drop start.at file.now)) ≡ true) }
     ensures { answer_of result ≡ judged_from cwr22 asked version faultless (class_at start.class) (counts_in start.counts)
