@@ -7,18 +7,6 @@ use Rattle.format.specs.Structure.{Answer, refused, passed}
 use Rattle.rules.specs.Sheet.{Taken, answer_to, is_refused, Sheet, sheet_of, with_sheet, most_files, add}
 use Rattle.answers.specs.Numbers.{is_passed}
 
--- an answer is one or the other
-module _ (x : Taken) (a : Answer) (is : a ≡ answer_to x) where
-  refused-or : (b : Answer) → (is_passed b ≡ false → is_refused b ≡ true) × (is_passed b ≡ true → is_refused b ≡ false)
-  refused-or (refused n i) = (λ q. refl, λ q. absurd (false≢true q))
-  refused-or (passed k m n) = (λ q. absurd (false≢true (sym q)), λ q. refl)
-
-  pub is-refused : is_passed a ≡ false → is_refused (answer_to x) ≡ true
-  is-refused q = rw is at ((refused-or a).0 q)
-
-  pub is-passed : is_passed a ≡ true → is_refused (answer_to x) ≡ false
-  is-passed q = rw is at ((refused-or a).1 q)
-
 module _ (s : Sheet) (x : Taken) where
   pub full-so : leb most_files s.files ≡ true → record { answer = refused 12 0; sheet = s } ≡ add s x
   unfolding add

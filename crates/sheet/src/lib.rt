@@ -8,14 +8,16 @@ ghost use Rattle.format.specs.Table.{unknown};
 ghost use Rattle.format.specs.Lines.{lines};
 ghost use Rattle.format.specs.Structure.{most_bytes, most_records};
 ghost use Rattle.format.specs.Numbering.{records_in};
-ghost use Rattle.rules.specs.Tables.{language_size, society_size, category_size, right_table, tables_of};
+ghost use Rattle.rules.specs.Tables.{language_size, society_size, category_size, right_table};
 ghost use Rattle.rules.specs.Sheet.{Taken as File, answer_to, is_refused, plus, within, plus_each, with_missed, missed_by, sheet_of, with_sheet, add};
+ghost use Rattle.tables.specs.Which.{lent_in};
 ghost use Rattle.structure.specs.Cursor.{Here};
 ghost use Rattle.figures.specs.Counted.{told, Within, WithinAll, FiguresOf};
 ghost use Rattle.sheet.specs.Told.{told_missed, told_of, added_of};
 
-use answers::Answer;
+use answers::{Answer, Refusal};
 use figures::{Figures, Misses};
+use tables::Tables;
 use values::{Share, Tolerance};
 
 // Of a right: the transactions whose total is neither 0 nor the full share.
@@ -110,18 +112,18 @@ impl Missed {
 // ---- the figures of a file that is let in
 
 // The tables are indexed once, in slots on the stack.
-fn count(file: &[u8], languages: &[u8], societies: &[u8], categories: &[u8]) -> Figures
+fn count(file: &[u8], tables: Tables) -> Figures
     requires file_len_bound { (length file.now ≤ most_bytes) × Here file.now 0 unknown (records_in (lines file.now))
         × (length (records_in (lines file.now)) ≤ most_records) }
-    requires languages_value { (right_table language_size languages.now ≡ true) × (right_table society_size societies.now ≡ true)
-        × (right_table category_size categories.now ≡ true) }
+    requires right_tables { (right_table language_size tables.languages.now ≡ true) × (right_table society_size tables.societies.now ≡ true)
+        × (right_table category_size tables.categories.now ≡ true) }
     ensures { FiguresOf (record {
-      tables = tables_of languages.now societies.now categories.now;
+      tables = lent_in tables.entry;
       file = file.now;
     }) result }
 {
     let mut slots = [0u32; tables::SLOTS];
-    tables::index(languages, societies, categories, &mut slots);
+    tables.index(&mut slots);
     counting::count_file(
         file,
         Tolerance {
@@ -194,30 +196,27 @@ impl Sheet {
     }
 
     // One file more: refused by 12 where the sheet is full, else checked with the largest tolerance.
-    pub fn take(self, file: &[u8], languages: &[u8], societies: &[u8], categories: &[u8]) -> Taken
+    pub fn take(self, file: &[u8], tables: Tables) -> Taken
         ensures { added_of result ≡ add (told_of self) (record {
-          tables = tables_of languages.now societies.now categories.now;
+          tables = lent_in tables.entry;
           file = file.now;
         }) }
     {
         if MOST_FILES <= self.files {
             return Taken {
-                answer: Answer::Full,
+                answer: Err(Refusal::Full),
                 sheet: self,
             };
         }
-        let answer = admission::admit(file, languages, societies, categories, Share::SLACK);
-        if !answer.passes() {
-            let one = Sheet::of_refused();
-            return Taken {
-                answer,
-                sheet: self.with(one),
-            };
-        }
-        let one = Sheet::of_passed(count(file, languages, societies, categories));
-        Taken {
-            answer,
-            sheet: self.with(one),
+        match admission::admit(file, tables, Share::SLACK) {
+            Ok(passed) => Taken {
+                answer: Ok(passed),
+                sheet: self.with(Sheet::of_passed(count(file, tables))),
+            },
+            Err(refusal) => Taken {
+                answer: Err(refusal),
+                sheet: self.with(Sheet::of_refused()),
+            },
         }
     }
 }
