@@ -2,29 +2,33 @@
 use Prim.Native.Nat.{ℕ}
 use native.Mathlib.Omega.{arith}
 use mathlib.Core.Path.{◌≡◌, refl, sym, ap, ◌∙◌}
+use Rattle.std.specs.Prelude.{Some, None, Ok, Err}
 use Rattle.rules.specs.Outcome.{Outcome}
 use Rattle.rules.specs.Sheet.{Missed as RulesMissed, Sheet as RulesSheet, Added}
+use Rattle.answers.specs.declared.Refusal.{Refusal}
+use Rattle.answers.specs.Numbers.{refused_of}
 use Rattle.answers.proofs.Alone.{answer-alone}
 use Rattle.sheet.specs.declared.Missed.{Missed}
 use Rattle.sheet.specs.declared.Sheet.{Sheet}
 use Rattle.sheet.specs.declared.Taken.{Taken}
 use Rattle.sheet.specs.Told.{added_of}
-use Rattle.cwr.specs.declared.First.{First}
-use Rattle.cwr.specs.declared.First.TheVariants.{Refused, Nothing, At}
 use Rattle.cwr.specs.First.{rules_first}
-use Rattle.cwr.specs.Promises.{OneFits}
+use Rattle.cwr.specs.Promises.{Answer, First, OneFits}
 
 -- no two cases stand for one outcome
+refusal_alone : (a b : Refusal) → refused_of a ≡ refused_of b → ◌≡◌ {A = First} (Err a) (Err b)
+refusal_alone a b e = let same : ◌≡◌ {A = Answer} (Err a) (Err b) = answer-alone (Err a) (Err b) e in cc
+
 first_alone : (r s : First) → rules_first r ≡ rules_first s → r ≡ s
-first_alone (Refused a) (Refused b) e = ap Refused (answer-alone a b cc)
-first_alone (Refused a) Nothing e = let z : ◌≡◌ {A = ℕ} 0 1 = cc in absurd (omega arith)
-first_alone (Refused a) (At k) e = let z : ◌≡◌ {A = ℕ} 0 1 = cc in absurd (omega arith)
-first_alone Nothing (Refused b) e = let z : ◌≡◌ {A = ℕ} 0 1 = cc in absurd (omega arith)
-first_alone Nothing Nothing e = refl
-first_alone Nothing (At k) e = let z : ◌≡◌ {A = ℕ} 0 1 = cc in absurd (omega arith)
-first_alone (At k) (Refused b) e = let z : ◌≡◌ {A = ℕ} 0 1 = cc in absurd (omega arith)
-first_alone (At k) Nothing e = let z : ◌≡◌ {A = ℕ} 0 1 = cc in absurd (omega arith)
-first_alone (At k) (At j) e = ap At cc
+first_alone (Err a) (Err b) e = refusal_alone a b cc
+first_alone (Err a) (Ok None) e = let z : ◌≡◌ {A = ℕ} 0 1 = cc in absurd (omega arith)
+first_alone (Err a) (Ok (Some k)) e = let z : ◌≡◌ {A = ℕ} 0 1 = cc in absurd (omega arith)
+first_alone (Ok None) (Err b) e = let z : ◌≡◌ {A = ℕ} 0 1 = cc in absurd (omega arith)
+first_alone (Ok None) (Ok None) e = refl
+first_alone (Ok None) (Ok (Some k)) e = let z : ◌≡◌ {A = ℕ} 0 1 = cc in absurd (omega arith)
+first_alone (Ok (Some k)) (Err b) e = let z : ◌≡◌ {A = ℕ} 0 1 = cc in absurd (omega arith)
+first_alone (Ok (Some k)) (Ok None) e = let z : ◌≡◌ {A = ℕ} 0 1 = cc in absurd (omega arith)
+first_alone (Ok (Some k)) (Ok (Some j)) e = let same : k ≡ j = cc in rw same refl
 
 -- nor do two sheets
 missed-again : RulesMissed → Missed

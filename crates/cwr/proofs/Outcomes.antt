@@ -1,8 +1,7 @@
 -- What each ending of a check comes to, and that what passes has room. Assumes nothing.
 use Prim.Native.Nat.{ℕ, ◌+◌}
 use native.Mathlib.Omega.{arith}
-use mathlib.Core.Path.{◌≡◌, refl, sym}
-use mathlib.Core.Bool.{true, false, false≢true}
+use mathlib.Core.Path.{◌≡◌, refl, sym, ap, ◌∙◌}
 use mathlib.Core.List.{◌++◌}
 use lib.ListN.{length, drop}
 use Rattle.format.specs.Bytes.{Bytes}
@@ -15,7 +14,6 @@ use Rattle.rules.specs.Claims.{InOrder}
 use Rattle.rules.proofs.Each.{records-counted, pairs-counted}
 use Rattle.rules.proofs.Outcomes.{passed-order}
 use Rattle.admission.proofs.Fit.{Fit, passes-fit}
-use Rattle.answers.specs.Numbers.{is_passed}
 use Rattle.buffers.specs.Written.{Written}
 use Rattle.transactions.specs.Walk.{rest_at, Room}
 
@@ -26,7 +24,7 @@ pub splice_front : (xs l : Bytes) → splice 0 xs l ≡ xs ++ drop (length xs) l
 unfolding splice
 splice_front xs l = let q : 0 + length xs ≡ length xs = omega arith in rw q
 
-module _ (tables : Tables) (t : ℕ) (f v g : Bytes) (a : Answer) (is : a ≡ answer tables t f (length v) (length g)) where
+module _ (tables : Tables) (t : ℕ) (f v g : Bytes) where
   abbrev done : Answer → Bytes → Bytes → Outcome
   done b v' g' = record { answer = b; verdicts = v'; findings = g' }
 
@@ -36,34 +34,22 @@ module _ (tables : Tables) (t : ℕ) (f v g : Bytes) (a : Answer) (is : a ≡ an
   abbrev sets : Bytes
   sets = finding_bytes (file_findings tables t (content f))
 
-  pub refused-so : is_passed a ≡ false → done a v g ≡ check tables t f v g
+  -- what is answered, b, where a refusal goes out
+  pub refused-so : {n i : ℕ} (b : Answer) → b ≡ refused n i → refused n i ≡ answer tables t f (length v) (length g) → done b v g ≡ check tables t f v g
   unfolding check
-  refused-so e = rw (← is) (go a e)
-    where
-      go : (b : Answer) → is_passed b ≡ false → done b v g ≡ done b (left_in b vs v) (left_in b sets g)
-      go (refused n i) q = refl
-      go (passed k m n) q = absurd (false≢true (sym q))
+  refused-so b same is = ap (λ (c : Answer). done c v g) same ∙ rw (← is) refl
 
-  module _ (e : is_passed a ≡ true) where
+  module _ {i j n : ℕ} (is : passed i j n ≡ answer tables t f (length v) (length g)) where
     pub judged-so : (v' g' : Bytes) → Written 0 (file_verdicts tables t (content f)) (file_findings tables t (content f)) v g v' g'
-        → done a v' g' ≡ check tables t f v g
+        → done (passed i j n) v' g' ≡ check tables t f v g
     unfolding check
-    judged-so v' g' w = rw (← is) (go a e)
-      where
-        go : (b : Answer) → is_passed b ≡ true → done b v' g' ≡ done b (left_in b vs v) (left_in b sets g)
-        go (refused n i) q = absurd (false≢true q)
-        go (passed k m n) q = rw (w.verdicts, w.findings, splice_front vs v, splice_front sets g) refl
+    judged-so v' g' w = rw (← is) (rw (w.verdicts, w.findings, splice_front vs v, splice_front sets g) refl)
 
     -- what passes was let in, and the buffers have room for it
     pub fit : InOrder tables t f v g × Fit f × Room (length (rest_at f 0)) (length v) (length g)
-    fit = go a e is
-      where
-        go : (b : Answer) → is_passed b ≡ true → b ≡ answer tables t f (length v) (length g)
-            → InOrder tables t f v g × Fit f × Room (length (rest_at f 0)) (length v) (length g)
-        go (refused n i) q k = absurd (false≢true q)
-        go (passed i j n) q k =
-            let (o, s) = passed-order tables t f v g i j n (sym k) in
-            let h = passes-fit f i j n s in
-            let c : length (rest_at f 0) ≡ n = records-counted f i j n s in
-            let p = pairs-counted f i j n s in
-            (o, h, record { few = h.few; in_v = omega (arith, o.in_v); in_f = omega (arith, o.in_f) })
+    fit =
+        let (o, s) = passed-order tables t f v g i j n (sym is) in
+        let h = passes-fit f i j n s in
+        let c : length (rest_at f 0) ≡ n = records-counted f i j n s in
+        let p = pairs-counted f i j n s in
+        (o, h, record { few = h.few; in_v = omega (arith, o.in_v); in_f = omega (arith, o.in_f) })

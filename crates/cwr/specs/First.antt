@@ -1,14 +1,13 @@
 -- The cases of the answer about the first work to look at, and each in one number.
-use Rattle.std.specs.Prelude.{ℕ, ◌-◌, ◌^◌}
+use Rattle.std.specs.Prelude.{ℕ, ◌-◌, ◌^◌, Option, Some, None, Result, Ok, Err}
 use Rattle.rules.specs.First.{First as RulesFirst, refused_with, nothing, at}
-use Rattle.answers.specs.Numbers.{answer_of, exact}
-use Rattle.cwr.specs.declared.First.{First}
-use Rattle.cwr.specs.declared.First.TheVariants.{Refused, Nothing, At}
+use Rattle.answers.specs.declared.Refusal.{Refusal}
+use Rattle.answers.specs.Numbers.{refused_of, exact}
 
-abbrev pub rules_first : First → RulesFirst
-rules_first (Refused a) = refused_with (answer_of a)
-rules_first Nothing = nothing
-rules_first (At k) = at k
+abbrev pub rules_first : Result (Option ℕ) Refusal → RulesFirst
+rules_first (Err r) = refused_with (refused_of r)
+rules_first (Ok None) = nothing
+rules_first (Ok (Some k)) = at k
 
 -- a refusal as the check's, 2^32 - 1 for nothing, or the transaction's number
 abbrev pub exact_first : RulesFirst → ℕ

@@ -1,5 +1,5 @@
 -- What each call promises of its answer and of what it leaves, and that one outcome alone fits it: proofs/Alone.antt has the proof.
-use Rattle.std.specs.Prelude.{ℕ, ◌≡◌, length, take}
+use Rattle.std.specs.Prelude.{ℕ, ◌≡◌, Option, Result, length, take}
 use Rattle.format.specs.Bytes.{Bytes}
 use Rattle.format.specs.Cwr22.{cwr22}
 use Rattle.rules.specs.Tables.{Tables}
@@ -7,13 +7,20 @@ use Rattle.rules.specs.Findings.{places, count_of, lowest_of}
 use Rattle.rules.specs.Outcome.{Outcome, check}
 use Rattle.rules.specs.First.{first}
 use Rattle.rules.specs.Sheet.{Sheet, add}
-use Rattle.answers.specs.declared.Answer.{Answer}
+use Rattle.answers.specs.declared.Passed.{Passed}
+use Rattle.answers.specs.declared.Refusal.{Refusal}
 use Rattle.answers.specs.Numbers.{answer_of}
 use Rattle.numbering.specs.Outcome.{number_answer, number_buffer}
 use Rattle.sheet.specs.declared.Taken.{Taken}
 use Rattle.sheet.specs.Told.{added_of}
-use Rattle.cwr.specs.declared.First.{First}
 use Rattle.cwr.specs.First.{rules_first}
+
+-- what is answered of a check, and of the first work to look at
+abbrev pub Answer : Type 0
+Answer = Result Passed Refusal
+
+abbrev pub First : Type 0
+First = Result (Option ℕ) Refusal
 
 -- what a check has done, as the definition says it: its answer, and the two buffers after it
 abbrev pub outcome : Answer → Bytes → Bytes → Outcome

@@ -6,13 +6,14 @@ ghost use Rattle.std.specs.Prelude.{◌≡◌, true, ◌≤◌, length};
 ghost use Rattle.format.specs.Lent.{in_room};
 ghost use Rattle.format.specs.Structure.{most_bytes, most_records};
 ghost use Rattle.format.specs.Table.{unknown};
-ghost use Rattle.rules.specs.Tables.{language_size, society_size, category_size, right_table, tables_of};
+ghost use Rattle.rules.specs.Tables.{language_size, society_size, category_size, right_table};
 ghost use Rattle.rules.specs.Values.{largest_tolerance};
 ghost use Rattle.rules.specs.Records.{any};
 ghost use Rattle.rules.specs.Outcome.{enough, content, short_tolerance};
 ghost use Rattle.rules.specs.First.{is_grave, first_at};
 ghost use Rattle.rules.specs.Claims.{sets_by_transaction};
 ghost use Rattle.answers.specs.Numbers.{answer_of};
+ghost use Rattle.tables.specs.Which.{lent_in};
 ghost use Rattle.structure.specs.Cursor.{Here};
 ghost use Rattle.transactions.specs.Walk.{rest_at, Room};
 ghost use Rattle.files.specs.Levels.{WrittenFile};
@@ -22,36 +23,25 @@ ghost use Rattle.cwr.specs.First.{rules_first};
 ghost use Rattle.cwr.specs.Packed.{packed_first};
 ghost use Rattle.cwr.specs.Promises.{Checked, FirstRejected, SheetTaken, Numbered, Counted, Lowest, RightLength};
 
-use answers::Answer;
+use answers::{Answer, Refusal};
 use sheet::{Sheet, Taken};
+use tables::Tables;
 use values::{Share, Tolerance};
 
 // ---- a search through a file that passed, with its tables
 
 // The tables are indexed once, in slots on the stack.
-fn seek(
-    file: &[u8],
-    languages: &[u8],
-    societies: &[u8],
-    categories: &[u8],
-    tolerance: u64,
-) -> Option<usize>
+fn seek(file: &[u8], tables: Tables, tolerance: Tolerance) -> Option<usize>
     requires file_len_bound { (length file.now ≤ most_bytes) × Here file.now 0 unknown (rest_at file.now 0)
         × (length (rest_at file.now 0) ≤ most_records) }
-    requires tolerance_le_largest_tolerance { (tolerance ≤ largest_tolerance) × (right_table language_size languages.now ≡ true)
-        × (right_table society_size societies.now ≡ true) × (right_table category_size categories.now ≡ true) }
+    requires right_tables { (right_table language_size tables.languages.now ≡ true) × (right_table society_size tables.societies.now ≡ true)
+        × (right_table category_size tables.categories.now ≡ true) }
     ensures { in_file result ≡ first_at (any is_grave)
-        (sets_by_transaction (tables_of languages.now societies.now categories.now) tolerance (content file.now)) }
+        (sets_by_transaction (lent_in tables.entry) tolerance (content file.now)) }
 {
     let mut slots = [0u32; tables::SLOTS];
-    tables::index(languages, societies, categories, &mut slots);
-    search::search(
-        file,
-        Tolerance {
-            hundredths: tolerance,
-        },
-        &slots,
-    )
+    tables.index(&mut slots);
+    search::search(file, tolerance, &slots)
 }
 
 // ---- the calls
@@ -59,118 +49,64 @@ fn seek(
 // Checks a file. Refused, it has written nothing; passed, each record has its verdict byte and its eight bytes of findings.
 pub fn check(
     file: &[u8],
-    languages: &[u8],
-    societies: &[u8],
-    categories: &[u8],
+    tables: Tables,
     tolerance: u64,
     verdicts: &mut [u8],
     findings: &mut [u8],
 ) -> Answer
-    ensures { Checked (tables_of languages.now societies.now categories.now) tolerance
+    ensures { Checked (lent_in tables.entry) tolerance
         file.now verdicts.old findings.old result verdicts.new findings.new }
 {
-    let admitted = admission::admit(file, languages, societies, categories, tolerance);
-    let r = admission::in_room(admitted, verdicts.len(), findings.len());
-    if !r.passes() {
-        return r;
-    }
-    files::judge(
-        file,
-        tables::Tables {
-            languages,
-            societies,
-            categories,
-        },
-        Tolerance {
-            hundredths: tolerance,
-        },
-        verdicts,
-        findings,
-    );
-    r
+    let admitted = admission::admit(file, tables, tolerance);
+    let passed = admission::in_room(admitted, verdicts.len(), findings.len())?;
+    let tolerance = Tolerance {
+        hundredths: tolerance,
+    };
+    files::judge(file, tables, tolerance, verdicts, findings);
+    Ok(passed)
 }
 
 // The short form, for files that go out: without tolerance, and so never refused by 1.
-pub fn check_short(
-    file: &[u8],
-    languages: &[u8],
-    societies: &[u8],
-    categories: &[u8],
-    verdicts: &mut [u8],
-    findings: &mut [u8],
-) -> Answer
-    ensures { Checked (tables_of languages.now societies.now categories.now) short_tolerance
+pub fn check_short(file: &[u8], tables: Tables, verdicts: &mut [u8], findings: &mut [u8]) -> Answer
+    ensures { Checked (lent_in tables.entry) short_tolerance
         file.now verdicts.old findings.old result verdicts.new findings.new }
 {
-    check(
-        file,
-        languages,
-        societies,
-        categories,
-        Share::EXACT,
-        verdicts,
-        findings,
-    )
+    check(file, tables, Share::EXACT, verdicts, findings)
 }
 
-// What is answered of the first work to look at; specs/First.antt gives each case its number.
-#[derive(Clone, Copy)]
-pub enum First {
-    // As the check would be.
-    Refused(Answer),
-    // No record of the file has a TR or GR finding.
-    Nothing,
-    // The transaction's number, counted from 0 over the whole file.
-    At(usize),
-}
+// What is answered of the first work to look at: a refusal as the check's, or the transaction's number, counted from 0 over the whole file;
+// none where no record of the file has a TR or GR finding. specs/First.antt gives each case its number.
+pub type First = Result<Option<usize>, Refusal>;
 
-impl First {
-    // In one number.
-    pub fn packed(self) -> u64
-        ensures { result ≡ packed_first (rules_first self) }
-    {
-        match self {
-            First::Refused(answer) => answer.packed(),
-            First::Nothing => 4294967295,
-            First::At(transaction) => transaction as u64,
-        }
+// In one number.
+pub fn packed(first: First) -> u64
+    ensures { result ≡ packed_first (rules_first first) }
+{
+    match first {
+        Err(refusal) => answers::packed(Err(refusal)),
+        Ok(None) => 4294967295,
+        Ok(Some(transaction)) => transaction as u64,
     }
 }
 
 // The first transaction with a TR or GR finding of its own. Nothing is written, and no later transaction is judged.
-pub fn first_rejected(
-    file: &[u8],
-    languages: &[u8],
-    societies: &[u8],
-    categories: &[u8],
-    tolerance: u64,
-) -> First
-    ensures { FirstRejected (tables_of languages.now societies.now categories.now) tolerance
+pub fn first_rejected(file: &[u8], tables: Tables, tolerance: u64) -> First
+    ensures { FirstRejected (lent_in tables.entry) tolerance
         file.now result }
 {
-    let admitted = admission::admit(file, languages, societies, categories, tolerance);
-    if !admitted.passes() {
-        return First::Refused(admitted);
-    }
-    let sought = seek(file, languages, societies, categories, tolerance);
-    match sought {
-        None => First::Nothing,
-        Some(transaction) => First::At(transaction),
-    }
+    admission::admit(file, tables, tolerance)?;
+    let tolerance = Tolerance {
+        hundredths: tolerance,
+    };
+    Ok(seek(file, tables, tolerance))
 }
 
 // Takes one file more on a sheet, which is `Sheet::fresh()` before the first.
-pub fn sheet_add(
-    sheet: Sheet,
-    file: &[u8],
-    languages: &[u8],
-    societies: &[u8],
-    categories: &[u8],
-) -> Taken
-    ensures { SheetTaken (told_of sheet) (tables_of languages.now societies.now categories.now)
+pub fn sheet_add(sheet: Sheet, file: &[u8], tables: Tables) -> Taken
+    ensures { SheetTaken (told_of sheet) (lent_in tables.entry)
         file.now result }
 {
-    sheet.take(file, languages, societies, categories)
+    sheet.take(file, tables)
 }
 
 // Numbers a file into out.
