@@ -1,39 +1,33 @@
 -- The outset of a check with a territory table, and one transaction more that is settled. Assumes nothing.
-use Prim.Native.Nat.{ℕ, suc, ◌+◌, ◌*◌, ◌≤◌, ◌<◌}
+use Prim.Native.Nat.{ℕ, ◌*◌, ◌≤◌, ◌<◌}
 use native.Mathlib.Omega.{arith}
 use native.Mathlib.Nat.{zero-add}
-use mathlib.Core.Path.{◌≡◌, refl, sym, ap, ◌∙◌, subst}
-use mathlib.Core.Bool.{Bool, true, false, cond, ◌&&◌, true≢false, false≢true}
+use mathlib.Core.Path.{◌≡◌, refl, sym, ap}
+use mathlib.Core.Bool.{true, false≢true}
 use mathlib.Core.Option.{Option, none, some}
-use mathlib.Core.List.{List, [], ◌∷◌}
 use lib.Dec.{leb}
 use lib.ListN.{length}
 use borrow.Author.Tests.{leb-true}
 use Rattle.format.specs.Bytes.{Bytes}
 use Rattle.format.specs.Table.{unknown}
-use Rattle.format.specs.Cwr22.{cwr22}
-use Rattle.format.specs.Structure.{Answer, refused, passed, refusal, structure, most_records}
+use Rattle.format.specs.Structure.{Answer, refused, passed, refusal}
 use Rattle.format.specs.Lent.{in_room}
-use Rattle.format.specs.Tree.{transactions_in}
 use Rattle.format.proofs.Tests.{by_cases, both}
 use Rattle.rules.specs.Tables.{Tables}
-use Rattle.rules.specs.Territories.{territories_in, right_territories}
+use Rattle.rules.specs.Territories.{territories_in}
 use Rattle.rules.specs.Outcome.{enough, content}
-use Rattle.rules.specs.WithTerritories.{Over, file_over, over_among, crowded_from, in_list, admission_with, answer_with}
-use Rattle.answers.specs.declared.Answer.{Answer as CodeAnswer}
-use Rattle.answers.specs.Numbers.{answer_of, is_passed}
+use Rattle.rules.specs.WithTerritories.{file_over, crowded_from, in_list, admission_with, answer_with}
+use Rattle.answers.specs.Numbers.{is_passed}
 use Rattle.admission.proofs.Fit.{LetInWith, passed-with}
-use Rattle.structure.specs.Cursor.{Here}
-use Rattle.transactions.specs.Walk.{rest_at, Position, Room}
+use Rattle.transactions.specs.Walk.{rest_at, Room}
 use Rattle.files.specs.Levels.{WrittenFile}
 use Rattle.collection.specs.declared.Walk.{Walk}
 use Rattle.collection.specs.declared.Sought.{Sought}
 use Rattle.collection.specs.Marked.{marked_from, raised_from}
-use Rattle.collection.specs.Walk.{Lent, Standing, Owes, Doubts, Reached, steps_left as stepsSought}
+use Rattle.collection.specs.Walk.{Lent, Standing, Owes, Reached, steps_left}
 use Rattle.collection.proofs.Leaves.{over-all}
 use Rattle.collection.proofs.WholeFile.{claims-written}
-use Rattle.territorial.specs.declared.Progress.{Progress}
-use Rattle.territorial.specs.Progress.{Going, Passing, sought_of, steps_left, start_walk, progress_of}
+use Rattle.territorial.specs.Progress.{Passes, Going, start_walk}
 
 -- ---- what passes was let in, has room, and its claims fit the list
 
@@ -44,10 +38,6 @@ pub record Admitted (tables : Tables) (table : Bytes) (t : ℕ) (f : Bytes) (v g
   pub in-with : LetInWith tables table t f k m n
   pub enough-room : Room (length (rest_at f 0)) v g
   pub fits : crowded_from room 0 (rest_at f 0) ≡ none
-
-is-passed : (a : Answer) → is_passed a ≡ true → (k : ℕ) × (m : ℕ) × (n : ℕ) × (a ≡ passed k m n)
-is-passed (refused n i) e = absurd (false≢true e)
-is-passed (passed k m n) e = (k, m, n, refl)
 
 module _ (tables : Tables) (table : Bytes) (t : ℕ) (f : Bytes) (v g room : ℕ) where
   through-list : (b : Answer) → is_passed (in_list room (rest_at f 0) b) ≡ true → (is_passed b ≡ true) × (crowded_from room 0 (rest_at f 0) ≡ none)
@@ -63,36 +53,27 @@ module _ (tables : Tables) (table : Bytes) (t : ℕ) (f : Bytes) (v g room : ℕ
   through-room (refused n i) e = absurd (false≢true e)
   through-room (passed k m n) e = (k, m, n, refl, by_cases (enough v g n) (λ q. q) (λ q. absurd (false≢true (rw q at e))))
 
-  pub admitted : (a : Answer) → a ≡ answer_with tables table t f (enough v g) room → is_passed a ≡ true → Admitted tables table t f v g room
+  pub admitted : Passes tables table t f v g room → Admitted tables table t f v g room
   unfolding answer_with
-  admitted a is e =
-      let (roomy, fits) = through-list (in_room (enough v g) (admission_with tables table t f)) (ap is_passed (sym is) ∙ e) in
+  admitted (i, j, l, is) =
+      let (roomy, fits) = through-list (in_room (enough v g) (admission_with tables table t f)) (ap is_passed (sym is)) in
       let (k, m, n, q, roomy-so) = through-room (admission_with tables table t f) roomy in
-      let l = passed-with tables table t f k m n q in
+      let w = passed-with tables table t f k m n q in
       let (in_v, in_g) = both (leb n v) (leb (8 * n) g) roomy-so in
       record {
         k = k;
         m = m;
         n = n;
-        in-with = l;
+        in-with = w;
         enough-room = record {
-          few = l.fit.few;
-          in_v = omega (arith, leb-true n v in_v, l.counted);
-          in_f = omega (arith, leb-true (8 * n) g in_g, l.counted);
+          few = w.fit.few;
+          in_v = omega (arith, leb-true n v in_v, w.counted);
+          in_f = omega (arith, leb-true (8 * n) g in_g, w.counted);
         };
         fits = fits;
       }
 
 -- ---- the outset
-
-pub refused-at-once : {tables : Tables} {table : Bytes} {t : ℕ} {f : Bytes} {room : ℕ} {v g : Bytes} (a : CodeAnswer) (w : Walk) → w ≡ start_walk
-    → answer_of a ≡ answer_with tables table t f (enough (length v) (length g)) room → is_passed (answer_of a) ≡ false
-    → Going tables table t f room v g (record { doubtful = false; first = 0; used = 0; walk = w; answer = a }) v g
-refused-at-once a w e is q = record {
-  answer = is;
-  refused = λ z. (refl, refl, rw e refl, refl, refl);
-  passed = λ z. absurd (true≢false (sym z ∙ q));
-}
 
 module _ {tables : Tables} {table : Bytes} {t : ℕ} {f : Bytes} {room : ℕ} (v₀ g₀ : Bytes) (in_order : Admitted tables table t f (length v₀) (length g₀) room) where
   abbrev count : ℕ
@@ -136,59 +117,40 @@ module _ {tables : Tables} {table : Bytes} {t : ℕ} {f : Bytes} {room : ℕ} (v
           over = sym (over-all (territories_in table) t f in_order.k in_order.m in_order.n in_order.in-with.passes);
         })
 
-    pub begun : (a : CodeAnswer) → answer_of a ≡ answer_with tables table t f (enough (length v₀) (length g₀)) room → is_passed (answer_of a) ≡ true
-        → (s : Sought) (v₁ g₁ : Bytes) → length v₁ ≡ length v₀ → length g₁ ≡ length g₀
-        → Reached f table t count v' g' (file_over (territories_in table) t (content f)) s v₁ g₁
-        → Going tables table t f room v₀ g₀ (progress_of s room a) v₁ g₁
-    begun a is q s v₁ g₁ sameV same_g reached = record {
-      answer = is;
-      refused = λ z. absurd (true≢false (sym q ∙ z));
-      passed = λ z. record {
-        used = refl;
-        m = count;
-        lent = lent sameV same_g;
-        v' = v';
-        g' = g';
-        written = claims-written tables (territories_in table) t f in_order.k in_order.m in_order.n in_order.in-with.passes written;
-        reached = reached;
-        fits = in_order.fits;
-      };
+    pub begun : (s : Sought) (v₁ g₁ : Bytes) → length v₁ ≡ length v₀ → length g₁ ≡ length g₀
+        → Reached f table t count v' g' (file_over (territories_in table) t (content f)) s v₁ g₁ → Going tables table t f room v₀ g₀ s v₁ g₁
+    begun s v₁ g₁ sameV same_g reached = record {
+      m = count;
+      lent = lent sameV same_g;
+      v' = v';
+      g' = g';
+      written = claims-written tables (territories_in table) t f in_order.k in_order.m in_order.n in_order.in-with.passes written;
+      reached = reached;
+      fits = in_order.fits;
     }
 
 -- ---- one transaction more
 
-module _ {tables : Tables} {table : Bytes} {t : ℕ} {f : Bytes} {room : ℕ} {v₀ g₀ : Bytes} {s : Progress} {v g : Bytes}
+module _ {tables : Tables} {table : Bytes} {t : ℕ} {f : Bytes} {room : ℕ} {v₀ g₀ : Bytes} {s : Sought} {v g : Bytes}
     (going : Going tables table t f room v₀ g₀ s v g) (e : s.doubtful ≡ true) where
-  pub passing : Passing tables table t f room v₀ g₀ s v g
-  passing =
-      by_cases (is_passed (answer_of s.answer))
-      (λ p. going.passed p)
-      (λ n. absurd (true≢false (sym e ∙ (going.refused n).0)))
-
-  pub still-lent : {v₁ g₁ : Bytes} → length v₁ ≡ length v → length g₁ ≡ length g → Lent f table t passing.m v₁ g₁
+  pub still-lent : {v₁ g₁ : Bytes} → length v₁ ≡ length v → length g₁ ≡ length g → Lent f table t going.m v₁ g₁
   still-lent sameV same_g =
-      let l = passing.lent in
+      let l = going.lent in
       record { short = l.short; few = l.few; right = l.right; small = l.small; in_v = rw sameV l.in_v; in_g = rw same_g l.in_g }
 
   pub gone-on : {v₁ g₁ : Bytes} → length v₁ ≡ length v → length g₁ ≡ length g → (next : Sought)
-      → Reached f table t passing.m passing.v' passing.g' (file_over (territories_in table) t (content f)) next v₁ g₁
-      → Going tables table t f room v₀ g₀ (progress_of next s.used s.answer) v₁ g₁
+      → Reached f table t going.m going.v' going.g' (file_over (territories_in table) t (content f)) next v₁ g₁
+      → Going tables table t f room v₀ g₀ next v₁ g₁
   gone-on sameV same_g next reached = record {
-    answer = going.answer;
-    refused = λ z. absurd (true≢false (sym e ∙ (going.refused z).0));
-    passed = λ z. record {
-      used = passing.used;
-      m = passing.m;
-      lent = still-lent sameV same_g;
-      v' = passing.v';
-      g' = passing.g';
-      written = passing.written;
-      reached = reached;
-      fits = passing.fits;
-    };
+    m = going.m;
+    lent = still-lent sameV same_g;
+    v' = going.v';
+    g' = going.g';
+    written = going.written;
+    reached = reached;
+    fits = going.fits;
   }
 
-  pub fewer-steps : (next : Sought) (used : ℕ) (a : CodeAnswer) (at : ℕ) → at ≡ s.walk.at → stepsSought f next ≤ 2 * length (rest_at f at)
-      → steps_left f (progress_of next used a) < steps_left f s
-  unfolding steps_left stepsSought
-  fewer-steps next used a at same less = rw e (let z = ap (λ (i : ℕ). length (rest_at f i)) same in omega (arith, less, z))
+  pub fewer-steps : (next : Sought) (at : ℕ) → at ≡ s.walk.at → steps_left f next ≤ 2 * length (rest_at f at) → steps_left f next < steps_left f s
+  unfolding steps_left
+  fewer-steps next at same less = rw e (let z = ap (λ (i : ℕ). length (rest_at f i)) same in omega (arith, less, z))

@@ -1,34 +1,28 @@
 -- Refusal 14, as the code finds it, after all others. Assumes nothing.
-use Prim.Native.Nat.{ℕ, suc, ◌≤◌, ◌<◌}
+use Prim.Native.Nat.{ℕ, suc, ◌≤◌}
 use native.Mathlib.Omega.{arith}
 use mathlib.Core.Path.{◌≡◌, refl, sym, ap, ◌∙◌, subst}
-use mathlib.Core.Bool.{Bool, true, false, not, ◌||◌, ◌&&◌, false≢true, true≢false}
-use mathlib.Core.Option.{Option, none, some}
+use mathlib.Core.Bool.{Bool}
+use mathlib.Core.Option.{Option, none}
 use mathlib.Core.List.{List, [], ◌∷◌}
-use lib.Dec.{leb, ltb}
 use lib.ListN.{length}
-use borrow.Author.Tests.{leb-true, le-ltb}
+use borrow.Author.Tests.{le-ltb}
 use Rattle.format.specs.Bytes.{Bytes}
 use Rattle.format.specs.Cwr22.{cwr22}
 use Rattle.format.specs.Table.{unknown}
 use Rattle.format.specs.Structure.{Answer, refused, passed, refusal, most_bytes, most_records}
-use Rattle.format.specs.Tree.{span, after, is_head, is_detail}
+use Rattle.format.specs.Tree.{span, is_head, is_detail}
 use Rattle.format.specs.Lent.{in_room}
 use Rattle.format.proofs.Tests.{by_cases}
 use Rattle.rules.specs.Records.{only}
 use Rattle.rules.specs.Tables.{Tables}
-use Rattle.rules.specs.Outcome.{enough}
 use Rattle.rules.specs.Collection.{is_claim}
 use Rattle.rules.specs.WithTerritories.{crowded_from, in_list, admission_with, answer_with}
 use Rattle.rules.proofs.Lists.{only-fewer}
-use Rattle.answers.specs.declared.Told.{Told}
-use Rattle.answers.specs.declared.Answer.{Answer as CodeAnswer}
-use Rattle.answers.specs.Numbers.{answer_of, told_of, is_passed}
 use Rattle.admission.proofs.Fit.{passed-with}
 use Rattle.structure.specs.Cursor.{Here}
 use Rattle.transactions.specs.Walk.{rest_at}
 use Rattle.transactions.proofs.Gone.{length-parted}
-use Rattle.crowds.specs.Crowded.{crowd_of}
 use Rattle.territorial.specs.Progress.{Counted}
 
 -- a list with an entry for each record has room
@@ -39,29 +33,18 @@ none-crowded c i (r ∷ rs) h =
     let few : claims ≤ c = omega (arith, h, only-fewer is_claim (span (is_detail cwr22) rs), length-parted (is_detail cwr22) rs) in
     by_cases (is_head cwr22 r) (λ e. rw (e, le-ltb c claims few) (none-crowded c (suc i) rs (omega arith))) (λ e. rw e (none-crowded c (suc i) rs (omega arith)))
 
-module _ (f : Bytes) (room : ℕ) (a : Answer) where
-  -- as the code asks: refused already, or as many entries as records
-  pub as-it-is : (told : Told) → told ≡ told_of a → Counted f a → (not told.passes || leb told.records room) ≡ true → a ≡ in_list room (rest_at f 0) a
-  as-it-is told is = go a told is
-    where
-      go : (b : Answer) (told : Told) → told ≡ told_of b → Counted f b → (not told.passes || leb told.records room) ≡ true
-          → b ≡ in_list room (rest_at f 0) b
-      go (refused n i) told is c e = refl
-      go (passed k m n) told is c e =
-          let few = leb-true n room (rw is at e) in
-          rw (none-crowded room 0 (rest_at f 0) (omega (arith, c.2, few)))
+module _ (f : Bytes) (room : ℕ) (k m n : ℕ) where
+  -- as many entries as records
+  pub as-it-is : Counted f (passed k m n) → n ≤ room → passed k m n ≡ in_list room (rest_at f 0) (passed k m n)
+  as-it-is c few = rw (none-crowded room 0 (rest_at f 0) (omega (arith, c.2, few))) refl
 
   -- else the claims are counted
-  pub counted-so : (told : Told) → told ≡ told_of a → Counted f a → (not told.passes || leb told.records room) ≡ false
-      → ((length f ≤ most_bytes) × Here f 0 unknown (rest_at f 0) × (length (rest_at f 0) ≤ most_records))
-      × ((o : Option ℕ) → o ≡ crowded_from room 0 (rest_at f 0) → refusal 14 o a ≡ in_list room (rest_at f 0) a)
-  counted-so told is = go a told is
-    where
-      go : (b : Answer) (told : Told) → told ≡ told_of b → Counted f b → (not told.passes || leb told.records room) ≡ false
-          → ((length f ≤ most_bytes) × Here f 0 unknown (rest_at f 0) × (length (rest_at f 0) ≤ most_records))
-          × ((o : Option ℕ) → o ≡ crowded_from room 0 (rest_at f 0) → refusal 14 o b ≡ in_list room (rest_at f 0) b)
-      go (refused n i) told is c e = absurd (true≢false (rw is at e))
-      go (passed k m n) told is c e = ((c.0, c.1, omega (arith, c.2, c.3)), λ o q. rw q)
+  pub can-be-counted : Counted f (passed k m n)
+      → (length f ≤ most_bytes) × Here f 0 unknown (rest_at f 0) × (length (rest_at f 0) ≤ most_records)
+  can-be-counted c = (c.0, c.1, omega (arith, c.2, c.3))
+
+  pub counted-so : (o : Option ℕ) → o ≡ crowded_from room 0 (rest_at f 0) → refusal 14 o (passed k m n) ≡ in_list room (rest_at f 0) (passed k m n)
+  counted-so o q = rw q refl
 
 -- what is let in by 1 to 11 and 13 can be walked over
 module _ (tables : Tables) (table : Bytes) (t : ℕ) (f : Bytes) (room : ℕ → Bool) where

@@ -1,5 +1,5 @@
 -- Internal: where a check with a territory table stands between two transactions in doubt, and what it has come to.
-use Rattle.std.specs.Prelude.{ℕ, ◌<◌, ◌≤◌, ◌≡◌, true, false, cond, List, length}
+use Rattle.std.specs.Prelude.{ℕ, ◌≤◌, ◌≡◌, true, false, length}
 use Rattle.std.proofs.Math.Option.{none}
 use Rattle.format.specs.Bytes.{Bytes}
 use Rattle.format.specs.Table.{unknown}
@@ -10,8 +10,6 @@ use Rattle.rules.specs.Verdicts.{file_findings_by, file_verdicts_by}
 use Rattle.rules.specs.Outcome.{enough, content}
 use Rattle.rules.specs.Territories.{territories_in, right_territories}
 use Rattle.rules.specs.WithTerritories.{claimed_findings, file_over, crowded_from, answer_with}
-use Rattle.answers.specs.declared.Answer.{Answer as CodeAnswer}
-use Rattle.answers.specs.Numbers.{answer_of, is_passed}
 use Rattle.structure.specs.Cursor.{Here}
 use Rattle.buffers.specs.Written.{Written}
 use Rattle.transactions.specs.Walk.{rest_at}
@@ -19,63 +17,40 @@ use Rattle.claims.specs.Entries.{over_in}
 use Rattle.parties.specs.Ahead.{Within, entries_at}
 use Rattle.collection.specs.declared.Walk.{Walk}
 use Rattle.collection.specs.declared.Sought.{Sought}
-use Rattle.collection.specs.Walk.{Lent, Reached, steps_left as stepsSought}
-use Rattle.territorial.specs.declared.Over.TheVariants.{Nowhere, At}
-use Rattle.territorial.specs.declared.Claimed.{Claimed}
-use Rattle.territorial.specs.declared.Progress.{Progress}
+use Rattle.collection.specs.Walk.{Lent, Reached}
 
--- the walk over the file
-abbrev pub sought_of : Progress → Sought
-sought_of s = record { walk = s.walk; doubtful = s.doubtful; first = s.first }
+-- the file passes, with buffers of so many bytes and a list of so many entries
+abbrev pub Passes : Tables → Bytes → ℕ → Bytes → ℕ → ℕ → ℕ → Type 0
+Passes tables table t f v g room = (k : ℕ) × (m : ℕ) × (n : ℕ) × (passed k m n ≡ answer_with tables table t f (enough v g) room)
 
-unfoldable pub steps_left : Bytes → Progress → ℕ
-steps_left f s = stepsSought f (sought_of s)
-
--- in a file that passes: v' and g' are the buffers as they are to be, and every transaction's claims have room in the list
-pub record Passing (tables : Tables) (table : Bytes) (t : ℕ) (f : Bytes) (room : ℕ) (v₀ g₀ : Bytes) (s : Progress) (v g : Bytes) : Type 0 where
-  pub used : s.used ≡ room
+-- in a file that passes, with a list of so many entries, and the buffers v₀ and g₀ at the outset: v' and g' are the buffers as they are to be,
+-- and every transaction's claims have room in the list
+pub record Going (tables : Tables) (table : Bytes) (t : ℕ) (f : Bytes) (room : ℕ) (v₀ g₀ : Bytes) (s : Sought) (v g : Bytes) : Type 0 where
   pub m : ℕ
   pub lent : Lent f table t m v g
   pub v' : Bytes
   pub g' : Bytes
   pub written : Written 0 (file_verdicts_by (claimed_findings tables (territories_in table) t) (content f))
       (file_findings_by (claimed_findings tables (territories_in table) t) (content f)) v₀ g₀ v' g'
-  pub reached : Reached f table t m v' g' (file_over (territories_in table) t (content f)) (sought_of s) v g
+  pub reached : Reached f table t m v' g' (file_over (territories_in table) t (content f)) s v g
   pub fits : crowded_from room 0 (rest_at f 0) ≡ none
 
--- with a list of so many entries, and the buffers v₀ and g₀ at the outset
-pub record Going (tables : Tables) (table : Bytes) (t : ℕ) (f : Bytes) (room : ℕ) (v₀ g₀ : Bytes) (s : Progress) (v g : Bytes) : Type 0 where
-  pub answer : answer_of s.answer ≡ answer_with tables table t f (enough (length v₀) (length g₀)) room
-  pub refused : is_passed (answer_of s.answer) ≡ false
-      → (s.doubtful ≡ false) × (s.used ≡ 0) × (s.walk.found ≡ false) × (v ≡ v₀) × (g ≡ g₀)
-  pub passed : is_passed (answer_of s.answer) ≡ true → Passing tables table t f room v₀ g₀ s v g
-
 -- what is known of a transaction in doubt
-pub record Doubt (table : Bytes) (t : ℕ) (f : Bytes) (room : ℕ) (s : Progress) : Type 0 where
+pub record Doubt (table : Bytes) (t : ℕ) (f : Bytes) (room : ℕ) (s : Sought) : Type 0 where
   pub within : Within f table s.first 0
   pub fits : length (entries_at f table s.first 0) ≤ room
   pub few : length (entries_at f table s.first 0) ≤ most_records
   pub right : right_territories table ≡ true
   pub small : t ≤ largest_tolerance
-  pub all : s.used ≡ room
 
 -- its claims are counted
-abbrev pub Doubted : Bytes → ℕ → Bytes → Progress → ℕ → Bytes → Bytes → Type 0
+abbrev pub Doubted : Bytes → ℕ → Bytes → Sought → ℕ → Bytes → Bytes → Type 0
 Doubted table t f s over v g =
     (tables : Tables) × (room : ℕ) × (v₀ : Bytes) × (g₀ : Bytes) × Going tables table t f room v₀ g₀ s v g × (s.doubtful ≡ true)
     × (over ≡ over_in table t (entries_at f table s.first 0))
 
--- ---- made by the code
-
--- what is told of the walk once it is at its end
-abbrev pub told_of : Progress → Claimed
-told_of s = record { answer = s.answer; over = cond s.walk.found (At s.walk.transaction s.walk.territory) Nowhere }
-
 abbrev pub start_walk : Walk
 start_walk = record { at = 0; index = 0; number = 0; found = false; transaction = 0; territory = 0; header = 0 }
-
-abbrev pub progress_of : Sought → ℕ → CodeAnswer → Progress
-progress_of s used a = record { doubtful = s.doubtful; first = s.first; used = used; walk = s.walk; answer = a }
 
 -- a file that passes can be walked over, and has as many records as are told
 abbrev pub Counted : Bytes → Answer → Type 0

@@ -1,16 +1,21 @@
 -- `territorial::check` meets its contract: each turn settles one transaction in doubt, whose claims are listed and counted. Assumes nothing.
-use Rattle.std.proofs.Common.{◌≡◌, ◌≤◌, ◌++◌, ℕ, List, [], ◌∷◌, sym, ap, ◌∙◌, refl, arith, length, take, drop}
-use mathlib.Core.Path.{subst}
+use Rattle.std.proofs.Common.{◌≡◌, ◌≤◌, refl, sym, ap, ◌∙◌, arith, length, take, drop}
+use lib.Seq.{length-take-le}
 use Rattle.std.proofs.Math.Seq.{take_at}
-use Rattle.format.specs.Structure.{most_records}
-use Rattle.rules.specs.Tables.{tables_of}
 use Rattle.claims.specs.Entries.{over_in}
-use Rattle.claims.specs.Zeros.{no_claim}
 use Rattle.parties.specs.Ahead.{entries_at}
-use Rattle.territorial.specs.Promises.{Checked}
-use Rattle.territorial.specs.Progress.{told_of}
-use Rattle.territorial.proofs.Laws.{doubt, ended}
+use Rattle.tables.specs.Which.{lent_in}
+use Rattle.territorial.proofs.Laws.{doubt, ended, refused-so, all-cleared}
 use Rattle.territorial.proofs.check.Goals as goal
+
+pub returns-in_err-passed : goal.returns-in_err-passed
+returns-in_err-passed c = refused-so c.args.claims.now _ _ c.from_residual.ensures.1 c.in_err-passed.ensures
+
+pub begin-s-requires : goal.begin-s-requires
+begin-s-requires c = (length c.args.claims.now, (_, _, _, c.in_ok-passed.ensures))
+
+pub loop-s-init : goal.loop-s-init
+loop-s-init c = (c.begin-s.ensures _ (_, _, _, c.in_ok-passed.ensures), refl)
 
 pub fill-n-requires : goal.fill-n-requires
 fill-n-requires c =
@@ -20,8 +25,10 @@ fill-n-requires c =
 pub exceeding-over-requires : goal.exceeding-over-requires
 exceeding-over-requires c =
     let d = doubt c.loop-s.invariant.0 c.loop-s-test.true in
-    let count = c.fill-n.ensures.0 in
-    (omega (arith, count, d.fits, c.fill-n.auto.claims, c.loop-s.invariant.1), omega (arith, count, d.few), d.right, d.small)
+    let long : length c.fill-n.new.claims ≡ length c.args.claims.now = c.fill-n.auto.claims ∙ c.loop-s.invariant.1 in
+    let count : c.fill-n.result ≤ length c.fill-n.new.claims = omega (arith, c.fill-n.ensures.0, d.fits, long) in
+    let listed = length-take-le c.fill-n.result c.fill-n.new.claims count in
+    (omega (arith, listed, c.fill-n.ensures.0, d.few), d.right, d.small)
 
 pub go_on-s-requires : goal.go_on-s-requires
 go_on-s-requires c =
@@ -29,7 +36,7 @@ go_on-s-requires c =
     let n = c.fill-n.result in
     let es = entries_at a.file.now a.territories.now c.loop-s.s.first 0 in
     let all = ap (take n) c.fill-n.ensures.1 ∙ take_at es (drop n c.loop-s.claims) n (sym c.fill-n.ensures.0) in (
-      tables_of a.languages.now a.societies.now a.categories.now,
+      lent_in a.tables,
       length a.claims.now,
       a.verdicts.now,
       a.findings.now,
@@ -38,33 +45,16 @@ go_on-s-requires c =
       c.exceeding-over.ensures ∙ ap (over_in a.territories.now a.tolerance) all,
     )
 
-both-empty : {A : Type 0} (xs ys : List A) → length xs ≡ 0 → length ys ≡ 0 → xs ≡ ys
-both-empty [] [] e f = refl
-both-empty [] (y ∷ ys) e f = absurd (omega (arith, f))
-both-empty (x ∷ xs) ys e f = absurd (omega (arith, e))
-
--- all of the list was used, so where that is nothing the list is empty
 pub loop-s-preserved : goal.loop-s-preserved
 loop-s-preserved c =
     let a = c.args in
-    let inv = c.loop-s.invariant in
-    let d = doubt inv.0 c.loop-s-test.true in
-    let long : length c.fill-n.new.claims ≡ length a.claims.now = omega (arith, c.fill-n.auto.claims, inv.1) in (
-      c.go_on-s.ensures.going (tables_of a.languages.now a.societies.now a.categories.now) (length a.claims.now) a.verdicts.now a.findings.now inv.0,
-      long,
-      λ e.
-          let none : length a.claims.now ≡ 0 = omega (arith, e, c.go_on-s.ensures.result_bound.1, d.all) in
-          both-empty c.fill-n.new.claims a.claims.now (omega (arith, none, long)) none,
+    let inv = c.loop-s.invariant in (
+      c.go_on-s.ensures.going (lent_in a.tables) (length a.claims.now) a.verdicts.now a.findings.now inv.0,
+      c.fill-n.auto.claims ∙ inv.1,
     )
-
-pub clear-requires : goal.clear-requires
-clear-requires c =
-    let inv = c.loop-s.invariant in
-    let whole = ended inv.0 c.loop-s-test.false c.args.claims.now c.loop-s.claims refl inv.1 inv.2 in
-    omega (arith, whole.0, inv.1)
 
 pub returns : goal.returns
 returns c =
     let inv = c.loop-s.invariant in
-    let whole = ended inv.0 c.loop-s-test.false c.args.claims.now c.loop-s.claims refl inv.1 inv.2 in
-    rw (c.told.ensures, c.clear.ensures) whole.1
+    rw (c.clear.ensures ∙ all-cleared (length c.args.claims.now) c.loop-s.claims inv.1)
+    (ended inv.0 c.args.claims.now _ c.in_ok-passed.ensures refl c.loop-s-test.false c.first_over.ensures)

@@ -1,13 +1,14 @@
 use Rattle.std.proofs.Common.{◌≡◌, length}
-use Rattle.rules.specs.Tables.{tables_of}
-use Rattle.territorial.specs.Progress.{Going, steps_left}
+use Rattle.tables.specs.Which.{lent_in}
+use Rattle.collection.specs.Walk.{steps_left}
+use Rattle.territorial.specs.Progress.{Going}
 use Rattle.territorial.proofs.check.Given as goal
 
--- the walk stands between two transactions in doubt; the list is as long as it was, and where none of it is used it is as it was
+-- the walk stands between two transactions in doubt; the list is as long as it was
 abbrev pub invariant-loop-s : goal.invariant-loop-s
 invariant-loop-s l =
-    Going (tables_of l.languages l.societies l.categories) l.territories l.tolerance l.file (length l.fn.claims) l.fn.verdicts l.fn.findings l.s l.verdicts l.findings
-    × (length l.claims ≡ length l.fn.claims) × (l.s.used ≡ 0 → l.claims ≡ l.fn.claims)
+    Going (lent_in l.fn.tables) l.territories l.tolerance l.file (length l.fn.claims) l.fn.verdicts l.fn.findings l.s l.verdicts l.findings
+    × (length l.claims ≡ length l.fn.claims)
 
 abbrev pub decreases-loop-s : goal.decreases-loop-s
 decreases-loop-s l = steps_left l.file l.s

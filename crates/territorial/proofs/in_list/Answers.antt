@@ -1,24 +1,24 @@
--- `territorial::in_list` meets its contract.
-use mathlib.Core.Path.{sym, ap, ◌∙◌}
-use Rattle.answers.specs.Numbers.{answer_of}
-use Rattle.crowds.specs.Crowded.{crowd_of}
-use Rattle.territorial.proofs.Refusals.{as-it-is, counted-so}
+-- `territorial::in_list` meets its contract. Assumes nothing.
+use Rattle.territorial.proofs.Refusals.{as-it-is, can-be-counted, counted-so}
 use Rattle.territorial.proofs.in_list.Goals as goal
 
-pub returns-then-told-room : goal.returns-then-told-room
-returns-then-told-room c =
-    as-it-is c.args.file.now c.args.room (answer_of c.args.answer) c.told-told.result c.told-told.ensures.value c.requires c.if-told-room.true
+pub returns-then-passed-room : goal.returns-then-passed-room
+returns-then-passed-room c =
+    let p = c.in_ok-passed.passed in
+    rw c.in_ok-passed.was
+    (as-it-is c.args.file.now c.args.room p.groups p.transactions p.records (rw c.in_ok-passed.was at c.requires) c.if-passed-room.true)
 
-pub first_crowded-crowd-requires : goal.first_crowded-crowd-requires
-first_crowded-crowd-requires c =
-    (counted-so c.args.file.now c.args.room (answer_of c.args.answer) c.told-told.result c.told-told.ensures.value c.requires c.if-told-room.false).0
+pub first_crowded-requires : goal.first_crowded-requires
+first_crowded-requires c =
+    let p = c.in_ok-passed.passed in
+    can-be-counted c.args.file.now c.args.room p.groups p.transactions p.records (rw c.in_ok-passed.was at c.requires)
 
-pub returns-in-Nowhere : goal.returns-in-Nowhere
-returns-in-Nowhere c =
-    (counted-so c.args.file.now c.args.room (answer_of c.args.answer) c.told-told.result c.told-told.ensures.value c.requires
-    c.if-told-room.false).1 _ (ap crowd_of (sym c.in-Nowhere.is) ∙ c.first_crowded-crowd.ensures)
+pub returns-in-None : goal.returns-in-None
+returns-in-None c =
+    let p = c.in_ok-passed.passed in
+    rw c.in_ok-passed.was (counted-so c.args.file.now c.args.room p.groups p.transactions p.records _ c.in-None.ensures)
 
-pub returns-in-At : goal.returns-in-At
-returns-in-At c =
-    (counted-so c.args.file.now c.args.room (answer_of c.args.answer) c.told-told.result c.told-told.ensures.value c.requires
-    c.if-told-room.false).1 _ (ap crowd_of (sym c.in-At.is) ∙ c.first_crowded-crowd.ensures)
+pub returns-in-Some : goal.returns-in-Some
+returns-in-Some c =
+    let p = c.in_ok-passed.passed in
+    rw c.in_ok-passed.was (counted-so c.args.file.now c.args.room p.groups p.transactions p.records _ c.in-Some.ensures)
