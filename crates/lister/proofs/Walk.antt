@@ -51,15 +51,14 @@ first-line v g n r rs h =
     let e : 8 * (n + 1) ≡ 8 * n + 8 = omega arith in
     rw (drop-cons v n 0 h, e, ← drop-drop 8 (8 * n) g, add-one)
 
--- and as it was put: its set from the eight bytes before e, where the next record's begin
-pub line-put : {a r : ℕ} {o m : Bytes} (f : Bytes) (i n : ℕ) (v g : Bytes) (e x w : ℕ) → e ≡ 8 * (n + 1)
-    → x ≡ word_of (take (e - (e - 8)) (drop (e - 8) g)) → w ≡ get_or v n 0
+-- and as it was put
+pub line-put : {a r : ℕ} {o m : Bytes} (f : Bytes) (i n : ℕ) (v g : Bytes) (x w : ℕ)
+    → x ≡ word_of (take (8 * n + 8 - 8 * n) (drop (8 * n) g)) → w ≡ get_or v n 0
     → Put a (record_line n (take (i + 3 - i) (drop i f)) w (places 64 x)) o m r → Put a (line_at f i n v g) o m r
-line-put f i n v g e x w at-end is_set is-verdict p =
-    let start : e - 8 ≡ 8 * n = omega arith in
-    let eight : e - 8 * n ≡ 8 = omega arith in
+line-put f i n v g x w is_set is-verdict p =
+    let eight : 8 * n + 8 - 8 * n ≡ 8 = omega arith in
     let three : i + 3 - i ≡ 3 = omega arith in
-    rw (is_set, start, eight, is-verdict, three) at p
+    rw (is_set, eight, is-verdict, three) at p
 
 -- ---- start and end
 

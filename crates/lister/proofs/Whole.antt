@@ -2,8 +2,8 @@
 use Prim.Native.Nat.{ℕ, ◌*◌, ◌<◌, ◌≤◌}
 use native.Mathlib.Omega.{arith}
 use mathlib.Core.Path.{◌≡◌, refl, sym, ap, ◌∙◌}
-use mathlib.Core.Bool.{true, false, false≢true}
-use mathlib.Core.List.{[], ◌∷◌, ◌++◌, append-nil}
+use mathlib.Core.Bool.{true, false≢true}
+use mathlib.Core.List.{[], ◌∷◌, ◌++◌}
 use lib.ListN.{length, drop}
 use borrow.Author.Tests.{le-leb, lt-leb}
 use Rattle.format.specs.Ascii.{ascii}
@@ -17,34 +17,18 @@ use Rattle.rules.specs.Values.{largest_tolerance}
 use Rattle.rules.specs.Verdicts.{finding_bytes, file_findings, file_verdicts}
 use Rattle.rules.specs.Outcome.{Outcome, answer, content, check}
 use Rattle.rules.specs.Listing.{answer_line, record_lines, listed_after, listed, most_input, listing_tables, listing}
+use Rattle.rules.specs.Claims.{InOrder}
 use Rattle.rules.proofs.Each.{records-counted}
 use Rattle.rules.proofs.Outcomes.{passed-order, checks}
+use Rattle.admission.proofs.Fit.{Fit}
+use Rattle.transactions.specs.Walk.{rest_at, Room}
 use Rattle.answers.specs.Numbers.{is_passed}
 use Rattle.cwr.proofs.Outcomes.{fit, splice_front}
 use Rattle.lister.specs.Promises.{Listed}
 use Rattle.lister.specs.Put.{Put}
 use Rattle.lister.specs.Read.{Listable, lines_from}
-use Rattle.lister.proofs.Words.{then}
 use Rattle.lister.proofs.Back.{listed_back}
 use Rattle.lister.proofs.Small.{small-file}
-
--- ---- what is listed after the first line
-
-module _ {a r : ℕ} {x old new : Bytes} (b : Answer) (text : Bytes) where
-  pub passed-put : is_passed b ≡ true → {s : ℕ} {last : Bytes} → Put a x old new r
-      → Put r text new last s → Put a (x ++ listed_after b text) old last s
-  passed-put e {s} {last} p q = go b e
-    where
-      go : (b : Answer) → is_passed b ≡ true → Put a (x ++ listed_after b text) old last s
-      go (refused n i) e = absurd (false≢true e)
-      go (passed g m n) e = then p q
-
-  pub refused-put : is_passed b ≡ false → Put a x old new r → Put a (x ++ listed_after b text) old new r
-  refused-put e p = go b e
-    where
-      go : (b : Answer) → is_passed b ≡ false → Put a (x ++ listed_after b text) old new r
-      go (refused n i) e = rw (append-nil x) p
-      go (passed g m n) e = absurd (false≢true (sym e))
 
 -- ---- any file
 
@@ -66,9 +50,14 @@ module _ (tables : Tables) (t : ℕ) (f v₀ g₀ : Bytes) (a : Answer) (v g : B
   unfolding check
   left-g = ap (λ (o : Outcome). o.findings) is ∙ rw (← told)
 
+  in_room : (b : Answer) → b ≡ answer tables t f (length v₀) (length g₀) → is_passed b ≡ true
+      → InOrder tables t f v₀ g₀ × Fit f × Room (length (rest_at f 0)) (length v₀) (length g₀)
+  in_room (refused n i) e p = absurd (false≢true p)
+  in_room (passed k m n) e p = fit tables t f v₀ g₀ e
+
   pub can-list : is_passed a ≡ true → Listable f v g
   can-list e =
-      let (_, h, room) = fit tables t f v₀ g₀ a told e in
+      let (_, h, room) = in_room a told e in
       let same = checks.as_long tables t f v₀ g₀ in
       record {
         here = h.here;

@@ -1,12 +1,14 @@
 -- Words put one after the other, and the zeros before a number. Assumes nothing.
-use Prim.Native.Nat.{ℕ, suc, ◌+◌, ◌-◌, ◌<◌, ◌≤◌}
-use native.Mathlib.Numerals.{add-one}
+use Prim.Native.Nat.{ℕ, zero, suc, ◌+◌, ◌-◌, ◌<◌, ◌≤◌}
 use native.Mathlib.Omega.{arith}
 use mathlib.Core.Path.{◌≡◌, refl, sym, ap, ◌∙◌}
-use mathlib.Core.List.{[], ◌∷◌, ◌++◌, append_assoc, append-nil}
-use lib.ListN.{length, take, drop, set, get_or, drop_of_length-le, length-append, length-drop}
-use lib.Seq.{take_all, drop-cons}
+use mathlib.Core.Bool.{cond}
+use mathlib.Core.List.{[], ◌∷◌, ◌++◌, append_assoc}
+use lib.ListN.{length, take, drop, set, length-append, length-drop}
+use lib.Dec.{eqb}
+use lib.Seq.{length-take-le}
 use borrow.Author.Tests.{eq-eqb, ne_eqb}
+use Rattle.format.proofs.Tests.{by_cases}
 use borrow.Rule.Slice.PartMut.{put_mid}
 use Rattle.format.specs.Bytes.{Bytes, decimal}
 use Rattle.structure.proofs.Cursor.{to_end}
@@ -52,33 +54,44 @@ word-put w ys out a e x q h same =
 
 -- ---- zeros before a number
 
-two : (l : Bytes) (i : ℕ) → i + 1 < length l → drop i l ≡ get_or l i 0 ∷ get_or l (i + 1) 0 ∷ drop (suc (i + 1)) l
-two l i h = drop-cons l i 0 (omega arith) ∙ rw (← add-one i) (ap (λ (t : Bytes). get_or l i 0 ∷ t) (drop-cons l (i + 1) 0 h))
+-- how many zeros stand at the front
+abbrev pub lead : Bytes → ℕ
+lead [] = 0
+lead (b ∷ bs) = cond (eqb b 48) (suc (lead bs)) 0
 
--- one more is left out
-pub zeros-on : (l : Bytes) (i : ℕ) → i + 1 < length l → get_or l i 0 ≡ 48 → without_zeros (drop (i + 1) l) ≡ without_zeros (drop i l)
-zeros-on l i h e = rw (two l i h, eq-eqb (get_or l i 0) 48 e, drop-cons l (i + 1) 0 h)
+pub lead-stops : (b : ℕ) (bs : Bytes) → (b ≡ 48 → ⊥) → lead (b ∷ bs) ≡ 0
+lead-stops b bs h = rw (ne_eqb b 48 h) refl
 
--- no further one is
-pub zeros-stop : (l : Bytes) (i : ℕ) → i + 1 < length l → (get_or l i 0 ≡ 48 → ⊥) → drop i l ≡ without_zeros (drop i l)
-zeros-stop l i h e = rw (two l i h, ne_eqb (get_or l i 0) 48 e)
+pub lead-goes : (b : ℕ) (bs : Bytes) → b ≡ 48 → lead (b ∷ bs) ≡ lead bs + 1
+lead-goes b bs h = rw (eq-eqb b 48 h) (omega arith)
 
-short : (l : Bytes) → length l ≤ 1 → l ≡ without_zeros l
-short [] h = refl
-short (b ∷ []) h = refl
-short (b ∷ c ∷ l) h = absurd (omega arith)
+lead-most : (l : Bytes) → lead l ≤ length l
+lead-most [] = omega arith
+lead-most (b ∷ bs) = by_cases (eqb b 48) (λ e. rw e (omega (arith, lead-most bs))) (λ e. rw e (omega arith))
 
--- the last digit stays
-pub zeros-end : (l : Bytes) (i : ℕ) → length l ≤ i + 1 → drop i l ≡ without_zeros (drop i l)
-zeros-end l i h = short (drop i l) (omega (arith, length-drop i l))
+-- those before the last digit are left out
+before-last : (d : Bytes) (n : ℕ) → length d ≡ suc n → drop (lead (take n d)) d ≡ without_zeros d
+before-last [] n e = absurd (omega (arith, e))
+before-last (b ∷ []) zero e = refl
+before-last (b ∷ []) (suc n) e = absurd (omega (arith, e))
+before-last (b ∷ c ∷ bs) zero e = absurd (omega (arith, e))
+before-last (b ∷ c ∷ bs) (suc n) e =
+    by_cases (eqb b 48) (λ q. rw q (before-last (c ∷ bs) n (omega (arith, e)))) (λ q. rw q refl)
 
--- the digits that are left were put
-pub digits-put : {a r : ℕ} {o n : Bytes} (d : Bytes) (k x : ℕ) → drop k d ≡ without_zeros d
-    → Put a (take (length d - k) (drop k d) ++ x ∷ []) o n r → Put a (without_zeros d ++ x ∷ []) o n r
-digits-put d k x e p = rw (to_end d k, e) at p
+pub left-out : (d : Bytes) (last k : ℕ) → last ≡ length d - 1 → k ≡ lead (take last d) → drop k d ≡ without_zeros d
+left-out [] last k e is = let none : last ≡ 0 = omega (arith, e) in rw (is, none) refl
+left-out (b ∷ bs) last k e is = rw is (before-last (b ∷ bs) last (omega (arith, e)))
 
-pub digits-most : (d : Bytes) (k : ℕ) → length (take (length d - k) (drop k d)) ≤ length d
-digits-most d k = rw (to_end d k, length-drop) (omega arith)
+pub left-most : (d : Bytes) (last k : ℕ) → last ≡ length d - 1 → k ≡ lead (take last d) → k ≤ length d
+left-most d last k e is = omega (arith, is, lead-most (take last d), length-take-le last d (omega (arith, e)))
+
+-- the digits that are left, of n, were put
+pub digits-put : {a r : ℕ} {o m : Bytes} (d : Bytes) (n k x : ℕ) → length d ≡ n → drop k d ≡ without_zeros d
+    → Put a (take (n - k) (drop k d) ++ x ∷ []) o m r → Put a (without_zeros d ++ x ∷ []) o m r
+digits-put d n k x long e p = rw (to_end d k, e) at (rw (← long) at p)
+
+pub digits-most : (d : Bytes) (n k : ℕ) → length d ≡ n → length (take (n - k) (drop k d)) ≤ length d
+digits-most d n k long = rw (← long, to_end d k, length-drop) (omega arith)
 
 pub figure-put : {a r : ℕ} {o m : Bytes} (n x : ℕ) (d : Bytes) → d ≡ decimal 10 n → Put a (without_zeros d ++ x ∷ []) o m r
     → Put a (figure n ++ x ∷ []) o m r

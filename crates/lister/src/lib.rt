@@ -4,7 +4,7 @@
 
 ghost use Rattle.std.specs.Prelude.{◌≡◌, true, [], ◌∷◌, ◌++◌, ◌+◌, ◌*◌, ◌<◌, ◌≤◌, length, drop};
 ghost use Rattle.format.specs.Lines.{lines};
-ghost use Rattle.format.specs.Structure.{refused, passed};
+ghost use Rattle.format.specs.Structure.{refused};
 ghost use Rattle.format.specs.Numbering.{records_in};
 ghost use Rattle.rules.specs.Findings.{places};
 ghost use Rattle.rules.specs.Values.{largest_tolerance};
@@ -14,7 +14,8 @@ ghost use Rattle.lister.specs.Promises.{Listed};
 ghost use Rattle.lister.specs.Put.{Put};
 ghost use Rattle.lister.specs.Read.{Listable, line_at, lines_from};
 
-use answers::{Answer, MOST_RECORDS};
+use answers::{Answer, MOST_RECORDS, Passed};
+use tables::Tables;
 use values::Share;
 
 const SPACE: u8 = b' ';
@@ -40,24 +41,11 @@ fn zeros(digits: &[u8]) -> usize
     ensures digits_value { drop result digits.now ≡ without_zeros digits.now }
     ensures upper_bound { result ≤ length digits.now }
 {
-    let mut i = 0;
-    while i + 1 < digits.len() {
-        if digits[i] != b'0' {
-            return i;
-        }
-        i += 1;
-    }
-    i
-}
-
-// The digits after those zeros. (A part of a local array cannot be lent, so the function that holds the ten digits lends them whole.)
-fn put_digits(digits: &[u8], end: u8, out: &mut [u8], at: usize) -> usize
-    requires { at + length digits.now < length out.old }
-    ensures put { Put at (without_zeros digits.now ++ end ∷ []) out.old out.new result }
-    ensures upper_bound { result ≤ at + length digits.now + 1 }
-{
-    let from = zeros(digits);
-    put_word(&digits[from..], end, out, at)
+    let last = digits.len().saturating_sub(1);
+    digits[..last]
+        .iter()
+        .position(|d| *d != b'0')
+        .unwrap_or(last)
 }
 
 // A number, and the byte that stands after it.
@@ -68,7 +56,8 @@ fn put_figure(n: u64, end: u8, out: &mut [u8], at: usize) -> usize
 {
     let mut digits = [0u8; 10];
     text::decimal(n, &mut digits);
-    put_digits(&digits, end, out, at)
+    let from = zeros(&digits);
+    put_word(&digits[from..], end, out, at)
 }
 
 // ---- the line of a record
@@ -84,7 +73,7 @@ fn put_lowest(set: u64, out: &mut [u8], at: usize) -> usize
     if count == 0 {
         return put_word(b"-", LF, out, at);
     }
-    put_figure(lowest as u64, LF, out, at)
+    put_figure(u64::from(lowest), LF, out, at)
 }
 
 // The line of the record with that number, those three bytes of type, that verdict and that set of findings.
@@ -96,7 +85,7 @@ fn put_record(number: u64, kind: &[u8], verdict: u64, set: u64, out: &mut [u8], 
     let a = put_figure(number, SPACE, out, at);
     let b = put_word(kind, SPACE, out, a);
     let c = put_figure(verdict, SPACE, out, b);
-    let d = put_figure(findings::count(set) as u64, SPACE, out, c);
+    let d = put_figure(u64::from(findings::count(set)), SPACE, out, c);
     put_lowest(set, out, d)
 }
 
@@ -112,17 +101,17 @@ fn put_refused(number: u64, place: u64, out: &mut [u8]) -> usize
     put_figure(place, LF, out, b)
 }
 
-fn put_passed(groups: u64, transactions: u64, records: u64, out: &mut [u8]) -> usize
+fn put_passed(passed: Passed, out: &mut [u8]) -> usize
     requires { 64 ≤ length out.old }
-    ensures put { Put 0 (answer_line (passed groups transactions records)) out.old out.new result }
+    ensures put { Put 0 (answer_line (answer_of (Ok passed))) out.old out.new result }
     ensures upper_bound { result ≤ 64 }
 {
     let a = put_word(b"GROUPS", SPACE, out, 0);
-    let b = put_figure(groups, SPACE, out, a);
+    let b = put_figure(passed.groups, SPACE, out, a);
     let c = put_word(b"TRANSACTIONS", SPACE, out, b);
-    let d = put_figure(transactions, SPACE, out, c);
+    let d = put_figure(passed.transactions, SPACE, out, c);
     let e = put_word(b"RECORDS", SPACE, out, d);
-    put_figure(records, LF, out, e)
+    put_figure(passed.records, LF, out, e)
 }
 
 // The first line.
@@ -131,11 +120,12 @@ fn put_answer(a: Answer, out: &mut [u8]) -> usize
     ensures put { Put 0 (answer_line (answer_of a)) out.old out.new result }
     ensures upper_bound { result ≤ 64 }
 {
-    let told = a.told();
-    if told.passes {
-        put_passed(told.groups, told.transactions, told.records, out)
-    } else {
-        put_refused(told.refusal, told.place, out)
+    match a {
+        Ok(passed) => put_passed(passed, out),
+        Err(refusal) => {
+            let (number, place) = refusal.told();
+            put_refused(number, place, out)
+        }
     }
 }
 
@@ -157,14 +147,12 @@ fn put_line(
         out.old out.new result }
     ensures upper_bound { result ≤ from + 48 }
 {
-    let end = 8 * (number + 1);
-    let start = end - 8;
-    let set = text::load_eight(&findings[start..end]);
-    let three = at + 3;
+    let start = 8 * number;
+    let set = text::load_eight(&findings[start..start + 8]);
     put_record(
         number as u64,
-        &file[at..three],
-        text::wide(verdicts[number]),
+        &file[at..at + 3],
+        u64::from(verdicts[number]),
         set,
         out,
         from,
@@ -205,10 +193,10 @@ fn put_outcome(
         out.old out.new result }
 {
     let first = put_answer(answer, out);
-    if answer.passes() {
-        return put_records(file, verdicts, findings, out, first);
+    match answer {
+        Ok(_) => put_records(file, verdicts, findings, out, first),
+        Err(_) => first,
     }
-    first
 }
 
 // The listing of a file that is not too long, by a check with the program's tables and tolerance. The buffers are lent as arrays, so that
@@ -222,15 +210,12 @@ fn put_checked(
     requires { 64 + 10 * length file.now ≤ length out.old }
     ensures { Put 0 (listed listing_tables largest_tolerance file.now) out.old out.new result }
 {
-    let answer = cwr::check(
-        file,
-        b"ENFRDE",
-        b"035044058",
-        b"POPJAZSER",
-        Share::SLACK,
-        verdicts,
-        findings,
-    );
+    let tables = Tables {
+        languages: b"ENFRDE",
+        societies: b"035044058",
+        categories: b"POPJAZSER",
+    };
+    let answer = cwr::check(file, tables, Share::SLACK, verdicts, findings);
     put_outcome(file, answer, verdicts, findings, out)
 }
 

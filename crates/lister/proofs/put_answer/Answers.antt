@@ -1,21 +1,12 @@
--- `lister::put_answer` meets its contract: by its numbers the answer is one of the two. Assumes nothing.
-use borrow.Author.Rules.{rules}
-use Rattle.answers.specs.Numbers.{answer_of}
-use Rattle.answers.proofs.Parts.{told-passed, told-refused}
+-- `lister::put_answer` meets its contract: an answer is one of the two. Assumes nothing.
 use Rattle.lister.proofs.put_answer.Goals as goal
 
-pub returns-then-told : goal.returns-then-told
-returns-then-told c =
-    record {
-      put = rw (told-passed (answer_of c.args.a) c.told-told.result c.told-told.ensures.value c.if-told.true)
-          c.put_passed.ensures.put;
-      upper_bound = search rules;
-    }
+pub returns-in-Ok : goal.returns-in-Ok
+returns-in-Ok c = record { put = rw c.in-Ok.is c.put_passed.ensures.put; upper_bound = c.put_passed.ensures.upper_bound }
 
-pub returns-else-told : goal.returns-else-told
-returns-else-told c =
+pub returns-in-Err : goal.returns-in-Err
+returns-in-Err c =
     record {
-      put = rw (told-refused (answer_of c.args.a) c.told-told.result c.told-told.ensures.value c.if-told.false)
-          c.put_refused.ensures.put;
-      upper_bound = search rules;
+      put = rw (c.in-Err.is, ← c.told-number.ensures.number, ← c.told-number.ensures.place) c.put_refused.ensures.put;
+      upper_bound = c.put_refused.ensures.upper_bound;
     }

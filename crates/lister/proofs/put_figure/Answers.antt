@@ -1,8 +1,18 @@
 -- `lister::put_figure` meets its contract: ten digits, and the zeros before them left out. Assumes nothing.
-use Rattle.lister.proofs.Words.{figure-put}
-use borrow.Author.Rules.{rules}
+use native.Mathlib.Omega.{arith}
+use mathlib.Core.Path.{◌≡◌}
+use lib.ListN.{length}
+use Rattle.std.proofs.Common.{rules}
+use Rattle.lister.proofs.Words.{digits-put, digits-most, figure-put}
 use Rattle.lister.proofs.put_figure.Goals as goal
 
 pub returns : goal.returns
 returns c =
-    record { put = figure-put c.args.n c.args.end _ c.decimal.ensures c.put_digits.ensures.put; upper_bound = search rules }
+    let d = c.decimal.new.out in
+    let k = c.zeros-from.result in
+    let ten : length d ≡ 10 = search rules in
+    record {
+      put = figure-put c.args.n c.args.end d c.decimal.ensures
+          (digits-put d 10 k c.args.end ten c.zeros-from.ensures.digits_value c.put_word.ensures.put);
+      upper_bound = omega (arith, ten, digits-most d 10 k ten, c.put_word.ensures.value);
+    }

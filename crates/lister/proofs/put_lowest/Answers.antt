@@ -1,4 +1,5 @@
 -- `lister::put_lowest` meets its contract: the dash stands where nothing is counted. Assumes nothing.
+use mathlib.Core.Path.{◌∙◌}
 use Rattle.rules.specs.Findings.{places}
 use Rattle.lister.proofs.Texts.{dash, lowest-is}
 use borrow.Author.Rules.{rules}
@@ -14,6 +15,6 @@ returns-then-count-eq0 c =
 
 pub returns : goal.returns
 returns c =
-    let is = lowest-is (places 64 c.args.set) c.count-count.result c.lowest-lowest.result c.count-count.ensures c.if-count-eq0.false
-    c.lowest-lowest.ensures in
+    let is = lowest-is (places 64 c.args.set) c.count-count.result c.from.result c.count-count.ensures c.if-count-eq0.false
+    (c.from.ensures ∙ c.lowest-lowest.ensures) in
     record { put = rw is c.put_figure.ensures.put; upper_bound = search rules }

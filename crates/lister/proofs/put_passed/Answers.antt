@@ -6,7 +6,7 @@ use Rattle.lister.proofs.put_passed.Goals as goal
 pub returns : goal.returns
 returns c =
     record {
-      put = passed-put c.args.groups c.args.transactions c.args.records c.put_word-a.ensures.put c.put_figure-b.ensures.put
+      put = passed-put c.args.passed.groups c.args.passed.transactions c.args.passed.records c.put_word-a.ensures.put c.put_figure-b.ensures.put
           c.put_word-c.ensures.put c.put_figure-d.ensures.put c.put_word-e.ensures.put c.put_figure.ensures.put;
       upper_bound = omega (
         arith,

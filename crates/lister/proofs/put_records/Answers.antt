@@ -1,5 +1,4 @@
 -- `lister::put_records` meets its contract: each turn puts the line of one record more. Assumes nothing.
-use Prim.Native.Nat.{◌-◌}
 use native.Mathlib.Omega.{arith}
 use Rattle.lister.proofs.Words.{length-put}
 use Rattle.lister.proofs.Walk.{going_start, going_end, five-bytes, verdict-there, set_there, next-within, going_on}
