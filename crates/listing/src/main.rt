@@ -34,26 +34,12 @@ fn read_full<R: Read>(input: &mut R, buf: &mut [u8]) -> (usize, io::Result<()>)
     (n, Ok(()))
 }
 
-// Prints the first n bytes.
-fn print<W: Write>(text: &[u8], n: usize, to: &mut W) -> io::Result<()>
-    requires { n ≤ length text.now }
-    ensures { OnOk result (Appends (W.contents to.old) (W.contents to.new) (take n text.now)) }
+// Prints the listing of an input, which is made in a buffer.
+fn print_listing<W: Write>(input: &[u8], out: &mut [u8; LISTING], to: &mut W) -> io::Result<()>
+    ensures { OnOk result (Appends (W.contents to.old) (W.contents to.new) (listing input.now)) }
 {
-    to.write_all(&text[..n])
-}
-
-// Prints the listing of the first n bytes. (A part of a local array cannot be lent, so the function that holds it lends it whole.)
-fn print_listing<W: Write>(
-    input: &[u8],
-    n: usize,
-    out: &mut [u8; LISTING],
-    to: &mut W,
-) -> io::Result<()>
-    requires { n ≤ length input.now }
-    ensures { OnOk result (Appends (W.contents to.old) (W.contents to.new) (listing (take n input.now))) }
-{
-    let end = lister::list(&input[..n], out);
-    print(out, end, to)
+    let end = lister::list(input, out);
+    to.write_all(&out[..end])
 }
 
 // Prints the listing of an input. Where a read fails, that of what was read, and answers the error of that read.
@@ -64,7 +50,7 @@ fn run<R: Read, W: Write>(input: &mut R, output: &mut W) -> io::Result<()>
     let mut bytes = buffer();
     let (n, read) = read_full(input, &mut bytes);
     let mut out = [0u8; LISTING];
-    print_listing(&bytes, n, &mut out, output)?;
+    print_listing(&bytes[..n], &mut out, output)?;
     read
 }
 
