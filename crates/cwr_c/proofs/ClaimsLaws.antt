@@ -5,7 +5,7 @@ use Prim.Native.Nat.{ℕ, suc, ◌+◌, ◌*◌, ◌/◌, ◌%◌, ◌^◌, ◌<
 use native.Mathlib.Omega.{arith}
 use native.Mathlib.Nat.{div-div-eq-div-mul}
 use mathlib.Core.Path.{◌≡◌, refl, sym, ap, ◌∙◌}
-use mathlib.Core.Bool.{Bool, true, false, ◌&&◌, false≢true}
+use mathlib.Core.Bool.{Bool, true, false, ◌&&◌}
 use mathlib.Core.List.{List, ◌∷◌, ◌++◌, append-nil}
 use lib.Dec.{leb}
 use lib.ListN.{length, drop}
@@ -21,16 +21,15 @@ use Rattle.rules.specs.Tables.{Tables}
 use Rattle.rules.specs.Outcome.{enough}
 use Rattle.rules.specs.WithTerritories.{Over, nowhere, over, Claimed as RulesClaimed, admission_with, in_list, answer_with, claimed_by, check_claims}
 use Rattle.cwr_c.proofs.WithNear.{with-near}
-use Rattle.answers.specs.Numbers.{answer_of, is_passed}
+use Rattle.std.specs.Prelude.{Result}
+use Rattle.answers.specs.declared.Refusal.{Refusal}
 use Rattle.answers.specs.Packed.{packed_of}
 use Rattle.answers.proofs.Exact.{exact-so}
 use Rattle.buffers.proofs.Splice.{part-splice}
 use Rattle.claims.specs.declared.Claim.{Claim}
 use Rattle.claims.specs.Zeros.{no_claim}
-use Rattle.territorial.specs.declared.Over.{Over as CodeOver}
-use Rattle.territorial.specs.declared.Over.TheVariants.{Nowhere, At}
 use Rattle.territorial.specs.declared.Claimed.{Claimed}
-use Rattle.territorial.specs.Promises.{Checked, outcome, over_of}
+use Rattle.territorial.specs.Promises.{answer_told, over_told, Checked, outcome}
 use Rattle.cwr_c.specs.Territories.{over_bytes, claims_answer, claims_outcome, ClaimsCheckedC}
 use Rattle.cwr_c.specs.Told.{without_room, refused_of, packed_claimed, over_left}
 
@@ -48,14 +47,6 @@ and-true false = refl
 no_room : (c : ℕ) (rs : List Bytes) (a : Answer) → (n : ℕ) × (i : ℕ) × (without_room a ≡ refused n i) × (in_list c rs (without_room a) ≡ refused n i)
 no_room c rs (refused n i) = (n, i, refl, refl)
 no_room c rs (passed g m r) = (11, 0, refl, refl)
-
-pub room-refused : (a : Answer) → is_passed a ≡ false → packed_of a ≡ packed_of (without_room a)
-room-refused (refused n i) e = refl
-room-refused (passed g m r) e = absurd (false≢true (sym e))
-
-pub room-short : (a : Answer) → is_passed a ≡ true → packed_of (refused 11 0) ≡ packed_of (without_room a)
-room-short (refused n i) e = absurd (false≢true e)
-room-short (passed g m r) e = refl
 
 -- ---- the eight bytes
 
@@ -108,25 +99,23 @@ length_over nowhere = refl
 length_over (over m i) = refl
 
 -- as the code has them in one word
-pub nowhere-word : (o : CodeOver) → o ≡ Nowhere → bytes_of 8 18446744073709551615 ≡ over_bytes (over_of o)
+pub nowhere-word : bytes_of 8 18446744073709551615 ≡ over_bytes nowhere
 unfolding over_bytes bytes_of
-nowhere-word o e = ap (λ (u : CodeOver). over_bytes (over_of u)) (sym e)
+nowhere-word = refl
 
-pub over_word : (o : CodeOver) (m i : ℕ) → o ≡ At m i → bytes_of 8 (m % 2 ^ 32 + i % 2 ^ 32 * 2 ^ 32) ≡ over_bytes (over_of o)
+pub over_word : (m i : ℕ) → bytes_of 8 (m % 2 ^ 32 + i % 2 ^ 32 * 2 ^ 32) ≡ over_bytes (over m i)
 unfolding over_bytes
-over_word o m i e = two-in-one m i ∙ ap (λ (u : CodeOver). over_bytes (over_of u)) (sym e)
+over_word m i = two-in-one m i
 
--- a refusal leaves the buffer as it was; else they stand at its front
-pub over-kept : (a : Answer) (new old : Bytes) → is_passed a ≡ false → old ≡ left_in a new old
-over-kept (refused n i) new old e = refl
-over-kept (passed g m r) new old e = absurd (false≢true (sym e))
+-- they are put at the front of the buffer
+pub over-put : (o : Over) (old part : Bytes) → part ≡ over_bytes o → put_mid 0 8 old part ≡ splice 0 (over_bytes o) old
+over-put o old part is = ap (put_mid 0 8 old) is ∙ part-splice 0 8 (over_bytes o) old (length_over o)
 
-pub over-put : (a : Answer) (o : Over) (old part : Bytes) → is_passed a ≡ true → part ≡ over_bytes o → put_mid 0 8 old part ≡ left_in a (over_bytes o) old
+pub over-left : (o : Over) (old : Bytes) → splice 0 (over_bytes o) old ≡ over_bytes o ++ drop (length (over_bytes o)) old
 unfolding splice
-over-put (refused n i) o old part e is = absurd (false≢true e)
-over-put (passed g m r) o old part e is =
+over-left o old =
     let front : 0 + length (over_bytes o) ≡ length (over_bytes o) = omega arith in
-    ap (put_mid 0 8 old) is ∙ part-splice 0 8 (over_bytes o) old (length_over o) ∙ ap (λ k. over_bytes o ++ drop k old) front
+    ap (λ k. over_bytes o ++ drop k old) front
 
 -- ---- the call
 
@@ -168,8 +157,8 @@ module _ (tables : Tables) (table : Bytes) (t : ℕ) (f : Bytes) (cs : List Clai
       over = rw is refl;
     }
 
-    told-so : (r : Claimed) (cs' : List Claim) (v' g' o' : Bytes) → outcome r cs' v' g' ≡ claims_outcome tables table t f cs v g o
-        → x ≡ packed_of (answer_of r.answer) → o' ≡ left_in (answer_of r.answer) (over_bytes (over_of r.over)) o
+    told-so : (r : Result Claimed Refusal) (cs' : List Claim) (v' g' o' : Bytes) → outcome r cs' v' g' ≡ claims_outcome tables table t f cs v g o
+        → x ≡ packed_of (answer_told r) → o' ≡ left_in (answer_told r) (over_bytes (over_told r)) o
         → ClaimsCheckedC tables table t f cs v g o x cs' v' g' o'
     unfolding claimed_by
     told-so r cs' v' g' o' is e d = record {
@@ -187,7 +176,7 @@ module _ {tables : Tables} {table : Bytes} {t : ℕ} {f : Bytes} {cs : List Clai
       let (n, i, is, listed) = no_room (length cs) (records_in (lines f)) (admission_with tables table t f) in
       refused-so tables table t f cs v g o x n i (short-answer tables table t f cs v g o l ∙ listed) (e ∙ ap packed_of is)
 
-  pub checked : {r : Claimed} {cs' : List Claim} {v' g' o' : Bytes} → 8 ≤ length o → Checked tables table t f cs v g r cs' v' g'
+  pub checked : {r : Result Claimed Refusal} {cs' : List Claim} {v' g' o' : Bytes} → 8 ≤ length o → Checked tables table t f cs v g r cs' v' g'
       → x ≡ packed_claimed r → o' ≡ over_left r o → ClaimsCheckedC tables table t f cs v g o x cs' v' g' o'
   unfolding packed_claimed over_left
   checked {r} {cs'} {v'} {g'} {o'} l c e d =

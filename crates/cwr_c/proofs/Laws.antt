@@ -14,16 +14,14 @@ use Rattle.rules.specs.Tables.{Tables}
 use Rattle.rules.specs.Outcome.{Outcome}
 use Rattle.rules.specs.Sheet.{Taken, answer_to, sheet_tolerance, most_files, Sheet, Added, add}
 use Rattle.rules.proofs.Outcomes.{checks, admission-near}
-use Rattle.answers.specs.declared.Answer.{Answer}
 use Rattle.answers.specs.Numbers.{answer_of}
 use Rattle.answers.specs.Packed.{packed_of}
 use Rattle.answers.proofs.Exact.{exact-so}
 use Rattle.numbering.proofs.Claims.{near}
 use Rattle.sheet_bytes.specs.Layout.{sheet_size, sheet_in, bytes_of_sheet}
-use Rattle.cwr.specs.declared.First.{First}
 use Rattle.cwr.specs.First.{rules_first}
 use Rattle.cwr.specs.Packed.{packed_first}
-use Rattle.cwr.specs.Promises.{Checked, FirstRejected, Numbered}
+use Rattle.cwr.specs.Promises.{Answer, First, Checked, FirstRejected, Numbered}
 use Rattle.cwr.proofs.Firsts.{first-exact}
 use Rattle.sheet.specs.declared.Taken.{Taken as SheetTaken}
 use Rattle.sheet.specs.Told.{told_of, added_of}

@@ -6,14 +6,16 @@ ghost use Rattle.std.specs.Prelude.{◌≡◌, ◌≤◌, length};
 ghost use Rattle.format.specs.Bytes.{bytes_of};
 ghost use Rattle.rules.specs.Outcome.{short_tolerance};
 ghost use Rattle.rules.specs.Tables.{tables_of};
+ghost use Rattle.tables.specs.Which.{lent_in};
 ghost use Rattle.territorial.specs.Promises.{over_of};
 ghost use Rattle.cwr.specs.Promises.{Counted, Lowest, RightLength};
 ghost use Rattle.cwr_c.specs.Promises.{CheckedC, FirstRejectedC, SheetAddedC, NumberedC};
 ghost use Rattle.cwr_c.specs.Territories.{over_bytes, ClaimsCheckedC};
 ghost use Rattle.cwr_c.specs.Told.{refused_of, packed_claimed, over_left};
 
-use answers::Answer;
+use answers::Refusal;
 use claims::Claim;
+use tables::Tables;
 use territorial::{Claimed, Over};
 
 // The short form of the check, for files that go out: without tolerance.
@@ -29,8 +31,12 @@ pub extern "C" fn cwr_check(
     ensures { CheckedC (tables_of languages.now societies.now categories.now) short_tolerance
         file.now verdicts.old findings.old result verdicts.new findings.new }
 {
-    let answer = cwr::check_short(file, languages, societies, categories, verdicts, findings);
-    answer.packed()
+    let tables = Tables {
+        languages,
+        societies,
+        categories,
+    };
+    answers::packed(cwr::check_short(file, tables, verdicts, findings))
 }
 
 // The check within a tolerance.
@@ -47,10 +53,12 @@ pub extern "C" fn cwr_check_within(
     ensures { CheckedC (tables_of languages.now societies.now categories.now) tolerance
         file.now verdicts.old findings.old result verdicts.new findings.new }
 {
-    let answer = cwr::check(
-        file, languages, societies, categories, tolerance, verdicts, findings,
-    );
-    answer.packed()
+    let tables = Tables {
+        languages,
+        societies,
+        categories,
+    };
+    answers::packed(cwr::check(file, tables, tolerance, verdicts, findings))
 }
 
 // The first transaction with a TR or GR finding of its own, by its number; 4294967295 where there is none.
@@ -65,8 +73,12 @@ pub extern "C" fn cwr_first_rejected(
     ensures { FirstRejectedC (tables_of languages.now societies.now categories.now) tolerance
         file.now result }
 {
-    let first = cwr::first_rejected(file, languages, societies, categories, tolerance);
-    first.packed()
+    let tables = Tables {
+        languages,
+        societies,
+        categories,
+    };
+    cwr::packed(cwr::first_rejected(file, tables, tolerance))
 }
 
 // Takes one file more on a sheet of 664 bytes, which are all 0 before the first.
@@ -85,15 +97,17 @@ pub extern "C" fn cwr_sheet_add(
         result sheet.new }
 {
     if sheet.len() < sheet_bytes::SHEET {
-        let short = Answer::Short;
-        return short.packed();
+        return answers::packed(Err(Refusal::Short));
     }
+    let tables = Tables {
+        languages,
+        societies,
+        categories,
+    };
     let before = sheet_bytes::read(sheet);
-    let taken = cwr::sheet_add(before, file, languages, societies, categories);
-    let after = taken.sheet;
-    sheet_bytes::put(after, sheet);
-    let answer = taken.answer;
-    answer.packed()
+    let taken = cwr::sheet_add(before, file, tables);
+    sheet_bytes::put(taken.sheet, sheet);
+    answers::packed(taken.answer)
 }
 
 // Numbering.
@@ -101,8 +115,7 @@ pub extern "C" fn cwr_sheet_add(
 pub extern "C" fn cwr_number(file: &[u8], out: &mut [u8]) -> u64
     ensures { NumberedC file.now out.old result out.new }
 {
-    let answer = cwr::number(file, out);
-    answer.packed()
+    answers::packed(cwr::number(file, out))
 }
 
 // How many findings are in a set.
@@ -132,56 +145,43 @@ pub extern "C" fn cwr_record_length(record: &[u8]) -> u32
 // ---- the check with a territory table
 
 // Where the last buffer is too short: the refusals that come before, and else 11.
-fn refuse(
-    file: &[u8],
-    languages: &[u8],
-    societies: &[u8],
-    categories: &[u8],
-    territories: &[u8],
-    tolerance: u64,
-) -> u64
-    ensures { result ≡ refused_of (tables_of languages.now societies.now categories.now)
+fn refuse(file: &[u8], tables: Tables, territories: &[u8], tolerance: u64) -> u64
+    ensures { result ≡ refused_of (lent_in tables.entry)
         territories.now tolerance file.now }
 {
-    let admitted = admission::admit_with(
-        file,
-        languages,
-        societies,
-        categories,
-        territories,
-        tolerance,
-    );
-    if admitted.passes() {
-        let short = Answer::Short;
-        return short.packed();
+    match admission::admit_with(file, tables, territories, tolerance) {
+        Ok(_) => answers::packed(Err(Refusal::Short)),
+        Err(refusal) => answers::packed(Err(refusal)),
     }
-    admitted.packed()
 }
 
 // The first territory that is over in one word, whose bytes are the transaction's number and then the territory's position.
-fn word_of(over: Over) -> u64
+fn word_of(over: Option<Over>) -> u64
     ensures { bytes_of 8 result ≡ over_bytes (over_of over) }
 {
     match over {
-        Over::Nowhere => 18446744073709551615,
-        Over::At(transaction, territory) => transaction as u64 % 4294967296
-            + territory as u64 % 4294967296 * 4294967296,
+        None => u64::MAX,
+        Some(first) => {
+            let transaction = first.transaction as u64;
+            let territory = first.territory as u64;
+            transaction % 4294967296 + territory % 4294967296 * 4294967296
+        }
     }
 }
 
 // The answer in one number; and where it is no refusal, the first territory that is over in eight bytes.
-fn tell(r: Claimed, over: &mut [u8]) -> u64
+fn tell(r: Result<Claimed, Refusal>, over: &mut [u8]) -> u64
     requires { 8 ≤ length over.old }
-    ensures { (result ≡ packed_claimed r) × (over.new ≡ over_left r over.old) }
+    ensures number { result ≡ packed_claimed r }
+    ensures left { over.new ≡ over_left r over.old }
 {
-    let answer = r.answer;
-    if !answer.passes() {
-        return answer.packed();
+    match r {
+        Ok(claimed) => {
+            text::store_eight(word_of(claimed.over), &mut over[..8]);
+            answers::packed(Ok(claimed.passed))
+        }
+        Err(refusal) => answers::packed(Err(refusal)),
     }
-    let first = r.over;
-    let word = word_of(first);
-    text::store_eight(word, &mut over[0..8]);
-    answer.packed()
 }
 
 // The check within a tolerance and with a territory table; a list is lent for the claims of one transaction at a time.
@@ -202,21 +202,17 @@ pub extern "C" fn cwr_check_claims(
         file.now claims.old verdicts.old findings.old over.old result
         claims.new verdicts.new findings.new over.new }
 {
-    if over.len() < 8 {
-        return refuse(
-            file,
-            languages,
-            societies,
-            categories,
-            territories,
-            tolerance,
-        );
-    }
-    let r = territorial::check(
-        file,
+    let tables = Tables {
         languages,
         societies,
         categories,
+    };
+    if over.len() < 8 {
+        return refuse(file, tables, territories, tolerance);
+    }
+    let r = territorial::check(
+        file,
+        tables,
         territories,
         tolerance,
         claims,

@@ -7,4 +7,4 @@ pub returns-then-over-lt8 : goal.returns-then-over-lt8
 returns-then-over-lt8 c = short c.if-over-lt8.true c.refuse.ensures
 
 pub returns : goal.returns
-returns c = checked c.if-over-lt8.false c.check-r.ensures c.tell.ensures.0 c.tell.ensures.1
+returns c = checked c.if-over-lt8.false c.check-r.ensures c.tell.ensures.number c.tell.ensures.left

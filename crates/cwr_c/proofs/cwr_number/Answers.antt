@@ -3,4 +3,4 @@ use Rattle.cwr_c.proofs.Laws.{numbered}
 use Rattle.cwr_c.proofs.cwr_number.Goals as goal
 
 pub returns : goal.returns
-returns c = numbered c.number-answer.result c.packed.ensures _ _ _ c.number-answer.ensures
+returns c = numbered c.number.result c.packed.ensures _ _ _ c.number.ensures

@@ -1,24 +1,14 @@
--- `cwr_c::refuse` meets its contract. Assumes nothing.
-use mathlib.Core.Path.{sym, ap, ◌∙◌}
+-- `cwr_c::refuse` meets its contract: 11 comes after the refusals before it. Assumes nothing.
+use mathlib.Core.Path.{ap, ◌∙◌}
 use Rattle.format.specs.Structure.{Answer}
-use Rattle.answers.specs.Numbers.{answer_of}
 use Rattle.answers.specs.Packed.{packed_of}
 use Rattle.cwr_c.specs.Told.{without_room, refused_of}
-use Rattle.cwr_c.proofs.ClaimsLaws.{room-short, room-refused}
 use Rattle.cwr_c.proofs.refuse.Goals as goal
 
-pub returns-then-passes : goal.returns-then-passes
+pub returns-in-Ok : goal.returns-in-Ok
 unfolding refused_of
-returns-then-passes c =
-    let admitted = c.admit_with-admitted in
-    c.packed.ensures
-    ∙ room-short (answer_of admitted.result) (sym c.passes.ensures ∙ c.if-passes.true)
-    ∙ ap (λ (a : Answer). packed_of (without_room a)) admitted.ensures
+returns-in-Ok c = c.packed.ensures ∙ ap (λ (a : Answer). packed_of (without_room a)) c.in-Ok.ensures
 
-pub returns : goal.returns
+pub returns-in-Err : goal.returns-in-Err
 unfolding refused_of
-returns c =
-    let admitted = c.admit_with-admitted in
-    c.packed-2.ensures
-    ∙ room-refused (answer_of admitted.result) (sym c.passes.ensures ∙ c.if-passes.false)
-    ∙ ap (λ (a : Answer). packed_of (without_room a)) admitted.ensures
+returns-in-Err c = c.packed-in-Err.ensures ∙ ap (λ (a : Answer). packed_of (without_room a)) c.in-Err.ensures

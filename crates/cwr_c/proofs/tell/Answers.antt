@@ -1,24 +1,19 @@
 -- `cwr_c::tell` meets its contract. Assumes nothing.
-use mathlib.Core.Path.{sym, ◌∙◌}
-use borrow.Author.Tests.{not-true, not-false}
-use Rattle.answers.specs.Numbers.{answer_of}
+use mathlib.Core.Path.{refl, ◌∙◌}
 use Rattle.territorial.specs.Promises.{over_of}
 use Rattle.cwr_c.specs.Told.{packed_claimed, over_left}
-use Rattle.cwr_c.proofs.ClaimsLaws.{over-kept, over-put}
+use Rattle.cwr_c.proofs.ClaimsLaws.{over-put, over-left}
 use Rattle.cwr_c.proofs.tell.Goals as goal
 
-pub returns-then-not-passes : goal.returns-then-not-passes
+pub returns-in-Ok : goal.returns-in-Ok
 unfolding packed_claimed over_left
-returns-then-not-passes c =
-    let r = c.args.r in
-    (c.packed.ensures, over-kept (answer_of r.answer) _ _ (sym c.passes.ensures ∙ not-true _ c.if-not-passes.true-raw))
+returns-in-Ok c =
+    let o = over_of c.in-Ok.claimed.over in
+    record {
+      number = rw c.in-Ok.is c.packed.ensures;
+      left = rw c.in-Ok.is (over-put o c.args.over.now _ (c.store_eight.ensures ∙ c.word_of.ensures) ∙ over-left o c.args.over.now);
+    }
 
-pub returns : goal.returns
+pub returns-in-Err : goal.returns-in-Err
 unfolding packed_claimed over_left
-returns c =
-    let g = c.args in (
-      c.packed-2.ensures,
-      over-put (answer_of g.r.answer) (over_of g.r.over) g.over.now _
-          (sym c.passes.ensures ∙ not-false _ c.if-not-passes.false-raw)
-          (c.store_eight.ensures ∙ c.word_of-word.ensures),
-    )
+returns-in-Err c = record { number = rw c.in-Err.is c.packed-in-Err.ensures; left = rw c.in-Err.is refl }

@@ -2,8 +2,8 @@
 use Rattle.cwr_c.proofs.ClaimsLaws.{nowhere-word, over_word}
 use Rattle.cwr_c.proofs.word_of.Goals as goal
 
-pub returns-in-Nowhere : goal.returns-in-Nowhere
-returns-in-Nowhere c = nowhere-word _ c.in-Nowhere.is
+pub returns-in-None : goal.returns-in-None
+returns-in-None c = rw c.in-None.is nowhere-word
 
-pub returns-in-At : goal.returns-in-At
-returns-in-At c = over_word _ _ _ c.in-At.is
+pub returns-in-Some : goal.returns-in-Some
+returns-in-Some c = rw c.in-Some.is (over_word c.in-Some.first.transaction c.in-Some.first.territory)
