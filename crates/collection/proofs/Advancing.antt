@@ -5,6 +5,7 @@ use mathlib.Core.Path.{◌≡◌, refl, sym, ap, ◌∙◌, subst}
 use mathlib.Core.Bool.{true, false, true≢false}
 use mathlib.Core.List.{List, [], ◌∷◌}
 use lib.ListN.{length, take, drop}
+use Rattle.std.specs.Prelude.{None, is_some}
 use Rattle.format.specs.Bytes.{Bytes}
 use Rattle.format.specs.Table.{Class, head, trl}
 use Rattle.format.specs.Cwr22.{cwr22}
@@ -29,7 +30,7 @@ use Rattle.collection.specs.declared.Walk.{Walk}
 use Rattle.collection.specs.declared.Sought.{Sought}
 use Rattle.collection.specs.Marked.{marked_from, raised_from}
 use Rattle.collection.specs.Walk.{Lent, Standing, or_found, Owes, Judged, Reached, past_control, steps_left}
-use Rattle.collection.proofs.Owed.{marked-control, raised-control, crowded-control, marked-end, raised-end}
+use Rattle.collection.proofs.Owed.{marked-control, raised-control, crowded-control, marked-end, raised-end, none-some}
 
 -- what a walk owes from where it stands, it owes itself
 owes_self : {f table : Bytes} {t m : ℕ} {w : Walk} {v g : Bytes} → Standing f m w
@@ -93,7 +94,7 @@ module _ {f table : Bytes} {t : ℕ} {v₀ g₀ : Bytes} {from : Walk} {v g : By
       in_g = rw same_g u.lent.in_g;
     }
 
-    pub past_one : s.doubtful ≡ false → Underway f table t v₀ g₀ from v₁ g₁ s.walk
+    pub past_one : s.doubt ≡ None → Underway f table t v₀ g₀ from v₁ g₁ s.walk
     past_one e = record {
       m = u.m;
       lent = still-lent;
@@ -104,12 +105,12 @@ module _ {f table : Bytes} {t : ℕ} {v₀ g₀ : Bytes} {from : Walk} {v g : By
       owes = λ m v' g' o owes. (judged m v' g' o (u.owes m v' g' o owes)).goes e;
     }
 
-    pub in-doubt : s.doubtful ≡ true
+    pub in-doubt : is_some s.doubt ≡ true
         → ((m : ℕ) (v' g' : Bytes) (o : Over) → Owes f table t m v' g' o from v₀ g₀ → Reached f table t m v' g' o s v₁ g₁)
         × (steps_left f s ≤ 2 * length (rest_at f from.at))
     unfolding steps_left
     in-doubt e = (
-      λ m v' g' o owes. record { doubts = λ d. (judged m v' g' o (u.owes m v' g' o owes)).doubts d; ends = λ z. absurd (true≢false (sym e ∙ z)) },
+      λ m v' g' o owes. record { doubts = λ n d. (judged m v' g' o (u.owes m v' g' o owes)).doubts n d; ends = λ z. absurd (true≢false (sym e ∙ ap is_some z)) },
       rw e (omega (arith, less, u.fewer)),
     )
 
@@ -148,15 +149,15 @@ module _ {f table : Bytes} {t : ℕ} {v₀ g₀ : Bytes} {from : Walk} {v g : By
       no-head : is_head cwr22 r ≡ false
       no-head = rw is-trailer
 
-      pub at-end : (first : ℕ) → ((m : ℕ) (v' g' : Bytes) (o : Over) → Owes f table t m v' g' o from v₀ g₀
-          → Reached f table t m v' g' o (record { walk = w; doubtful = false; first = first }) v g)
-          × (steps_left f (record { walk = w; doubtful = false; first = first }) ≤ 2 * length (rest_at f from.at))
+      pub at-end : ((m : ℕ) (v' g' : Bytes) (o : Over) → Owes f table t m v' g' o from v₀ g₀
+          → Reached f table t m v' g' o (record { walk = w; doubt = None }) v g)
+          × (steps_left f (record { walk = w; doubt = None }) ≤ 2 * length (rest_at f from.at))
       unfolding steps_left
-      at-end first = (
+      at-end = (
         λ m v' g' o owes.
             let mine = u.owes m v' g' o owes in
             record {
-              doubts = λ z. absurd (true≢false (sym z));
+              doubts = λ n z. absurd (none-some z);
               ends =
                   λ z. (
                     sym (raised-control (territories_in table) t w.index r [] v no-head ∙ raised-end (territories_in table) t (suc w.index) v) ∙ (rw alone at mine.verdicts),

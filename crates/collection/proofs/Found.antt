@@ -2,8 +2,11 @@
 use Prim.Native.Nat.{ℕ, ◌<◌}
 use native.Mathlib.Omega.{arith}
 use mathlib.Core.Path.{◌≡◌, refl, sym, ap, ◌∙◌}
-use mathlib.Core.Bool.{Bool, true, false, cond, not, ◌&&◌, ◌||◌}
-use mathlib.Core.Option.{Option, none, some}
+use mathlib.Core.Bool.{Bool, true, false}
+use mathlib.Core.Option.{Option as Place, none, some}
+use Rattle.std.specs.Prelude.{Option, None, Some}
+use Rattle.std.specs.Option.{option_or}
+use Rattle.std.specs.Bool.{then_some}
 use mathlib.Core.List.{List}
 use lib.Dec.{ltb}
 use lib.ListN.{length}
@@ -13,14 +16,14 @@ use Rattle.format.specs.Cwr22.{cwr22}
 use Rattle.format.specs.Tree.{span, is_detail}
 use Rattle.rules.specs.Territories.{Territory, territories_in}
 use Rattle.rules.specs.Collection.{is47, first_over}
-use Rattle.rules.specs.WithTerritories.{Over, over, or_later}
+use Rattle.rules.specs.WithTerritories.{Over, or_later}
 use Rattle.rules.proofs.Territories.{collected}
 use Rattle.transactions.specs.Walk.{rest_at}
 use Rattle.claims.specs.Entries.{over_in}
 use Rattle.claims.proofs.Overs.{or_all, over_first}
 use Rattle.parties.specs.Ahead.{entries_at}
-use Rattle.collection.specs.declared.Walk.{Walk}
-use Rattle.collection.specs.Walk.{or_found}
+use Rattle.collection.specs.declared.Over.{Over as CodeOver}
+use Rattle.collection.specs.Walk.{or_over}
 
 -- what is counted says whether one is over, and which
 module _ (f table : Bytes) (t first place : ℕ) (counted : place ≡ over_in table t (entries_at f table first 0)) where
@@ -37,7 +40,7 @@ module _ (f table : Bytes) (t first place : ℕ) (counted : place ≡ over_in ta
   by_first : {P : Type 0} → (first_over T t ds ≡ none → place ≡ length T → P) → (first_over T t ds ≡ some place → place < length T → P) → P
   by_first {P} nothing found = go (first_over T t ds) refl
     where
-      go : (o : Option ℕ) → first_over T t ds ≡ o → P
+      go : (o : Place ℕ) → first_over T t ds ≡ o → P
       go none e = nothing e (is_all ∙ ap (or_all (length T)) e)
       go (some i) e =
           let same : place ≡ i = is_all ∙ ap (or_all (length T)) e in
@@ -48,16 +51,11 @@ module _ (f table : Bytes) (t first place : ℕ) (counted : place ≡ over_in ta
   is-over = by_first (λ e n. rw (e, le-ltb place (length T) (omega (arith, n)))) (λ e l. rw (e, lt-ltb place (length T) l))
 
   -- the walk keeps the first
-  pub told_with : (w e : Walk) (b : Bool) → b ≡ ltb place (length T) → e.found ≡ (b || w.found)
-      → e.transaction ≡ cond (b && not w.found) w.number w.transaction → e.territory ≡ cond (b && not w.found) place w.territory
-      → (later : Over) → or_found e later ≡ or_found w (or_later w.number (first_over T t ds) later)
-  told_with w e b is found transaction territory later =
+  pub told_with : (o : Option CodeOver) (number : ℕ) (b : Bool) → b ≡ ltb place (length T)
+      → (later : Over) → or_over (option_or o (then_some b (record { transaction = number; territory = place }))) later
+      ≡ or_over o (or_later number (first_over T t ds) later)
+  told_with (Some o) number b is later = refl
+  told_with None number b is later =
       by_first
-      (λ q n. let no : b ≡ false = is ∙ le-ltb place (length T) (omega (arith, n)) in rw (found, transaction, territory, no, q))
-      (λ q l. let yes : b ≡ true = is ∙ lt-ltb place (length T) l in rw (found, transaction, territory, yes, q) (kept w.found))
-    where
-      kept : (b : Bool)
-          → over (cond (not b) w.number w.transaction) (cond (not b) place w.territory)
-          ≡ cond b (over w.transaction w.territory) (over w.number place)
-      kept true = refl
-      kept false = refl
+      (λ q n. let no : b ≡ false = is ∙ le-ltb place (length T) (omega (arith, n)) in rw (no, q))
+      (λ q l. let yes : b ≡ true = is ∙ lt-ltb place (length T) l in rw (yes, q))

@@ -4,10 +4,12 @@ use native.Mathlib.Omega.{arith}
 use native.Mathlib.Nat.{add-zero}
 use mathlib.Core.Path.{◌≡◌, refl, sym, ap, ◌∙◌, subst}
 use mathlib.Core.Bool.{Bool, true, false, cond, not, true≢false}
-use mathlib.Core.Option.{Option, none, some}
+use mathlib.Core.Option.{Option as Place, none, some}
 use mathlib.Core.List.{List, [], ◌∷◌, ◌++◌}
 use lib.ListN.{length, take, drop, take-append-drop}
 use lib.Seq.{drop-drop}
+use Rattle.std.specs.Prelude.{Option, None, Some, is_some}
+use Rattle.std.specs.Bool.{then_some}
 use Rattle.format.specs.Bytes.{Bytes}
 use Rattle.format.specs.Table.{head}
 use Rattle.format.specs.Cwr22.{cwr22}
@@ -113,10 +115,10 @@ pub crowded-control : (c i : ℕ) (r : Bytes) (rs : List Bytes) → is_head cwr2
     → crowded_from c (suc i) rs ≡ none
 crowded-control c i r rs h e = rw h at e
 
-some-none : (i : ℕ) → ◌≡◌ {A = Option ℕ} (some i) none → ⊥
+some-none : (i : ℕ) → ◌≡◌ {A = Place ℕ} (some i) none → ⊥
 some-none i e = true≢false (ap is-some e)
   where
-    is-some : Option ℕ → Bool
+    is-some : Place ℕ → Bool
     is-some none = false
     is-some (some j) = true
 
@@ -221,6 +223,18 @@ module _ {f table : Bytes} {t m : ℕ} {v' g' : Bytes} {o : Over} {w : Walk} {fi
         over = rw (at, number, next) (told _ ∙ doubts.over);
       }
 
+-- ---- what an Option is
+
+pub none-some : {n : ℕ} → None ≡ Some n → ⊥
+none-some e = cc
+
+pub some-same : {a b : ℕ} → Some a ≡ Some b → a ≡ b
+some-same e = cc
+
+pub doubtless : (d : Option ℕ) → is_some d ≡ false → d ≡ None
+doubtless None e = refl
+doubtless (Some n) e = absurd (true≢false e)
+
 -- ---- one transaction, in doubt or not
 
 module _ {f table : Bytes} {t m : ℕ} {v' g' : Bytes} {o : Over} {w : Walk} {v g : Bytes} (owes : Owes f table t m v' g' o w v g)
@@ -235,14 +249,12 @@ module _ {f table : Bytes} {t m : ℕ} {v' g' : Bytes} {o : Over} {w : Walk} {v 
     at = at;
     index = index;
     number = number;
-    found = w.found;
-    transaction = w.transaction;
-    territory = w.territory;
+    over = w.over;
     header = w.index;
   }
 
   abbrev sought : Bool → ℕ → Sought
-  sought fits number = record { walk = walk number; doubtful = not fits; first = first }
+  sought fits number = record { walk = walk number; doubt = then_some (not fits) first }
 
   module _ (v₁ g₁ : Bytes) (verdicts : v₁ ≡ raised_if (any (is48 (territories_in table)) details) w.index (index - w.index) v)
       (findings : g₁ ≡ marked48 (territories_in table) (w.index + 1) details g) where
@@ -259,10 +271,11 @@ module _ {f table : Bytes} {t m : ℕ} {v' g' : Bytes} {o : Over} {w : Walk} {v 
     judged true number is none_over =
         let (not-over, nothing) = none_over refl in
         record {
-          doubts = λ e. absurd (true≢false (sym e));
+          doubts = λ k e. absurd (none-some e);
           goes =
               λ e.
               rw is (subst (λ (u : Bytes). Owes f table t m v' g' o (walk (w.number + 1)) u g₁) (not-raised w.index (index - w.index) v₁)
               (settled in-doubt (walk (w.number + 1)) refl refl refl false (sym not-over) (λ later. rw nothing)));
         }
-    judged false number is none_over = record { doubts = λ e. rw is in-doubt; goes = λ e. absurd (true≢false e) }
+    judged false number is none_over =
+        record { doubts = λ k e. rw is (subst (λ (n : ℕ). Doubts f table t m v' g' o (walk w.number) n v₁ g₁) (some-same e) in-doubt); goes = λ e. absurd (none-some (sym e)) }

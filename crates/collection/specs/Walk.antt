@@ -1,6 +1,6 @@
 -- Internal: a walk over a file's transactions, from one in doubt to the next: where it stands, what it knows of a transaction's claims, and
 -- what it still owes to the two buffers and to the answer.
-use Rattle.std.specs.Prelude.{ℕ, suc, ◌+◌, ◌*◌, ◌≤◌, ◌≡◌, true, false, cond, List, length}
+use Rattle.std.specs.Prelude.{ℕ, suc, ◌+◌, ◌*◌, ◌≤◌, ◌≡◌, true, false, cond, Option, None, Some, is_some, List, length}
 use Rattle.std.proofs.Math.Option.{none}
 use Rattle.format.specs.Bytes.{Bytes}
 use Rattle.format.specs.Table.{Class, head, trl}
@@ -19,6 +19,7 @@ use Rattle.claims.specs.Entries.{entries_from}
 use Rattle.parties.specs.Most.{Most}
 use Rattle.collection.specs.declared.Tally.{Tally}
 use Rattle.collection.specs.declared.Details.{Details}
+use Rattle.collection.specs.declared.Over.{Over as CodeOver}
 use Rattle.collection.specs.declared.Walk.{Walk}
 use Rattle.collection.specs.declared.Sought.{Sought}
 use Rattle.collection.specs.Marked.{with47, raised_if, marked_from, raised_from}
@@ -57,8 +58,12 @@ pub record Standing (f : Bytes) (m : ℕ) (w : Walk) : Type 0 where
   pub uncrowded : (c : ℕ) → crowded_from c 0 (rest_at f 0) ≡ none → crowded_from c w.index (rest_at f w.at) ≡ none
 
 -- the first territory that was found to be over; where none was, what comes later
+abbrev pub or_over : Option CodeOver → Over → Over
+or_over None later = later
+or_over (Some o) later = over o.transaction o.territory
+
 abbrev pub or_found : Walk → Over → Over
-or_found w later = cond w.found (over w.transaction w.territory) later
+or_found w later = or_over w.over later
 
 -- with what is owed for the records that are left, the buffers v and g become v' and g', and o is told
 pub record Owes (f table : Bytes) (t m : ℕ) (v' g' : Bytes) (o : Over) (w : Walk) (v g : Bytes) : Type 0 where
@@ -88,8 +93,8 @@ pub record Doubts (f table : Bytes) (t m : ℕ) (v' g' : Bytes) (o : Over) (w : 
 
 -- past one transaction, which is in doubt or not
 pub record Judged (f table : Bytes) (t m : ℕ) (v' g' : Bytes) (o : Over) (s : Sought) (v g : Bytes) : Type 0 where
-  pub doubts : s.doubtful ≡ true → Doubts f table t m v' g' o s.walk s.first v g
-  pub goes : s.doubtful ≡ false → Owes f table t m v' g' o s.walk v g
+  pub doubts : (first : ℕ) → s.doubt ≡ Some first → Doubts f table t m v' g' o s.walk first v g
+  pub goes : s.doubt ≡ None → Owes f table t m v' g' o s.walk v g
 
 -- past a control record of so many bytes
 abbrev pub past_control : Walk → ℕ → Walk
@@ -97,17 +102,15 @@ past_control w size = record {
   at = w.at + size + 2;
   index = w.index + 1;
   number = w.number;
-  found = w.found;
-  transaction = w.transaction;
-  territory = w.territory;
+  over = w.over;
   header = w.header;
 }
 
 -- twice the records that are left, and one more for a transaction in doubt
 unfoldable pub steps_left : Bytes → Sought → ℕ
-steps_left f s = cond s.doubtful 1 0 + 2 * length (rest_at f s.walk.at)
+steps_left f s = cond (is_some s.doubt) 1 0 + 2 * length (rest_at f s.walk.at)
 
 -- the walk has come to a transaction in doubt, or to the end
 pub record Reached (f table : Bytes) (t m : ℕ) (v' g' : Bytes) (o : Over) (s : Sought) (v g : Bytes) : Type 0 where
-  pub doubts : s.doubtful ≡ true → Doubts f table t m v' g' o s.walk s.first v g
-  pub ends : s.doubtful ≡ false → (v ≡ v') × (g ≡ g') × (or_found s.walk nowhere ≡ o)
+  pub doubts : (first : ℕ) → s.doubt ≡ Some first → Doubts f table t m v' g' o s.walk first v g
+  pub ends : s.doubt ≡ None → (v ≡ v') × (g ≡ g') × (or_found s.walk nowhere ≡ o)

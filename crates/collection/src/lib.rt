@@ -12,7 +12,7 @@ ghost use Rattle.format.specs.Structure.{most_bytes, most_records, first_record}
 ghost use Rattle.format.specs.Tree.{span, is_detail};
 ghost use Rattle.rules.specs.Territories.{territories_in, right_territories};
 ghost use Rattle.rules.specs.Collection.{is_party};
-ghost use Rattle.rules.specs.WithTerritories.{Over};
+ghost use Rattle.rules.specs.WithTerritories.{Over as RulesOver};
 ghost use Rattle.claims.specs.Entries.{entry_of, over_in};
 ghost use Rattle.parties.specs.Ahead.{entries_at};
 ghost use Rattle.kinds.specs.Rows.{row_for};
@@ -227,16 +227,21 @@ fn judge_details(
 
 // ---- from transaction to transaction
 
-// Before a record of that number, which begins at that byte and is no detail, and of the transaction of that number. Where some territory
-// was found to be over, the first such, with its transaction; and the number of the latest header.
+// A territory that is over: the number of its transaction, counted from 0 over the whole file, and its position in the table.
+#[derive(Clone, Copy)]
+pub struct Over {
+    pub transaction: usize,
+    pub territory: usize,
+}
+
+// Before a record of that number, which begins at that byte and is no detail, and of the transaction of that number. The first territory
+// that was found to be over; and the number of the latest header.
 #[derive(Clone, Copy)]
 pub struct Walk {
     pub at: usize,
     pub index: usize,
     pub number: usize,
-    pub found: bool,
-    pub transaction: usize,
-    pub territory: usize,
+    pub over: Option<Over>,
     pub header: usize,
 }
 
@@ -244,8 +249,7 @@ pub struct Walk {
 #[derive(Clone, Copy)]
 pub struct Sought {
     pub walk: Walk,
-    pub doubtful: bool,
-    pub first: usize,
+    pub doubt: Option<usize>,
 }
 
 // One transaction, before whose header the walk stands: 48 on each of its claims. It is in doubt where the largest shares do not fit.
@@ -259,7 +263,7 @@ fn judge_transaction(
 ) -> Sought
     requires { (m : ℕ) × Lent file.now places.table.now t m verdicts.old findings.old × Standing file.now m w
         × (cls cwr22 (first_record (rest_at file.now w.at)) ≡ head) }
-    ensures by_index { (m : ℕ) (v g : Bytes) (o : Over)
+    ensures by_index { (m : ℕ) (v g : Bytes) (o : RulesOver)
         → Owes file.now places.entry.table.now t m v g o w verdicts.old findings.old
         → Judged file.now places.entry.table.now t m v g o result verdicts.new findings.new }
     ensures at_in_bounds { length (rest_at file.now result.walk.at) < length (rest_at file.now w.at) }
@@ -277,8 +281,7 @@ fn judge_transaction(
             header: w.index,
             ..w
         },
-        doubtful: !fits,
-        first,
+        doubt: (!fits).then_some(first),
     }
 }
 
@@ -306,7 +309,7 @@ fn advance(
     findings: &mut [u8],
 ) -> Sought
     requires { (m : ℕ) × Lent file.now places.table.now t m verdicts.old findings.old × Standing file.now m from }
-    ensures by_index { (m : ℕ) (v g : Bytes) (o : Over)
+    ensures by_index { (m : ℕ) (v g : Bytes) (o : RulesOver)
         → Owes file.now places.entry.table.now t m v g o from verdicts.old findings.old
         → Reached file.now places.entry.table.now t m v g o result verdicts.new findings.new }
     ensures result_bound { steps_left file.now result ≤ 2 * length (rest_at file.now from.at) }
@@ -319,13 +322,12 @@ fn advance(
         if row.class == TRL {
             return Sought {
                 walk: w,
-                doubtful: false,
-                first: 0,
+                doubt: None,
             };
         }
         if row.class == HEAD {
             let s = judge_transaction(file, places, t, w, verdicts, findings);
-            if s.doubtful {
+            if s.doubt.is_some() {
                 return s;
             }
             w = s.walk;
@@ -345,7 +347,7 @@ pub fn seek(
     findings: &mut [u8],
 ) -> Sought
     requires { (m : ℕ) × Lent file.now table.now t m verdicts.old findings.old × Standing file.now m from }
-    ensures by_index { (m : ℕ) (v g : Bytes) (o : Over)
+    ensures by_index { (m : ℕ) (v g : Bytes) (o : RulesOver)
         → Owes file.now table.now t m v g o from verdicts.old findings.old
         → Reached file.now table.now t m v g o result verdicts.new findings.new }
     ensures result_bound { steps_left file.now result ≤ 2 * length (rest_at file.now from.at) }
@@ -361,9 +363,9 @@ pub fn seek(
 
 // The transaction in doubt, once its claims are counted: the first territory that is over, or as many as there are.
 pub fn settle(table: &[u8], w: Walk, over: usize, verdicts: &mut [u8], findings: &mut [u8]) -> Walk
-    requires { (m : ℕ) × (f : Bytes) × (t : ℕ) × (first : ℕ) × (v' : Bytes) × (g' : Bytes) × (o : Over)
+    requires { (m : ℕ) × (f : Bytes) × (t : ℕ) × (first : ℕ) × (v' : Bytes) × (g' : Bytes) × (o : RulesOver)
         × Lent f table.now t m verdicts.old findings.old × Doubts f table.now t m v' g' o w first verdicts.old findings.old }
-    ensures owes { (f : Bytes) (t m first : ℕ) (v' g' : Bytes) (o : Over)
+    ensures owes { (f : Bytes) (t m first : ℕ) (v' g' : Bytes) (o : RulesOver)
         → Doubts f table.now t m v' g' o w first verdicts.old findings.old
         → over ≡ over_in table.now t (entries_at f table.now first 0)
         → Owes f table.now t m v' g' o result verdicts.new findings.new }
@@ -372,12 +374,13 @@ pub fn settle(table: &[u8], w: Walk, over: usize, verdicts: &mut [u8], findings:
     let is = over < territories::count(table);
     set_47(is, w.header, findings);
     raise(is, w.header, w.index, verdicts);
-    let new = is & !w.found;
+    let here = is.then_some(Over {
+        transaction: w.number,
+        territory: over,
+    });
     Walk {
         number: w.number + 1,
-        found: is | w.found,
-        transaction: choice::pick(new, w.number, w.transaction),
-        territory: choice::pick(new, over, w.territory),
+        over: w.over.or(here),
         ..w
     }
 }

@@ -1,9 +1,10 @@
 -- `collection::advance` meets its contract: each turn takes one transaction more, or one control record.
 use native.Mathlib.Omega.{arith}
-use mathlib.Core.Path.{◌∙◌}
+use mathlib.Core.Path.{sym, ◌∙◌}
 use Rattle.kinds.proofs.Laws.{hinted}
 use Rattle.structure.proofs.Rows.{in_table}
 use Rattle.collection.proofs.Advancing.{starts, three, numbered, past_one, in-doubt, ends, is-head, at-end, past-control, fewer-after}
+use Rattle.collection.proofs.Owed.{doubtless}
 use Rattle.collection.proofs.advance.Goals as goal
 
 pub loop-rows-init : goal.loop-rows-init
@@ -26,25 +27,25 @@ pub shape_of-findings-then-row-eq-TRL : goal.shape_of-findings-then-row-eq-TRL
 shape_of-findings-then-row-eq-TRL c = c.loop-rows.invariant.long_g
 
 pub returns-then-row-eq-TRL : goal.returns-then-row-eq-TRL
-returns-then-row-eq-TRL c = let told = at-end c.loop-rows.invariant c.row_at-row.ensures c.if-row-eq-TRL.true 0 in record { by_index = told.0; result_bound = told.1 }
+returns-then-row-eq-TRL c = let told = at-end c.loop-rows.invariant c.row_at-row.ensures c.if-row-eq-TRL.true in record { by_index = told.0; result_bound = told.1 }
 
 pub judge_transaction-s-requires : goal.judge_transaction-s-requires
 judge_transaction-s-requires c =
     let u = c.loop-rows.invariant in
     (u.m, u.lent, u.standing, is-head u c.row_at-row.ensures c.if-row-eq-HEAD.true)
 
-pub shape_of-verdicts-then-s : goal.shape_of-verdicts-then-s
-shape_of-verdicts-then-s c =
+pub shape_of-verdicts-then-is_some : goal.shape_of-verdicts-then-is_some
+shape_of-verdicts-then-is_some c =
     c.judge_transaction-s.auto.verdicts ∙ c.loop-rows.invariant.long_v
 
-pub shape_of-findings-then-s : goal.shape_of-findings-then-s
-shape_of-findings-then-s c =
+pub shape_of-findings-then-is_some : goal.shape_of-findings-then-is_some
+shape_of-findings-then-is_some c =
     c.judge_transaction-s.auto.findings ∙ c.loop-rows.invariant.long_g
 
-pub returns-then-s : goal.returns-then-s
-returns-then-s c = let told = let u = c.loop-rows.invariant in
+pub returns-then-is_some : goal.returns-then-is_some
+returns-then-is_some c = let told = let u = c.loop-rows.invariant in
     in-doubt u c.judge_transaction-s.auto.verdicts c.judge_transaction-s.auto.findings
-    c.judge_transaction-s.ensures.by_index c.judge_transaction-s.ensures.at_in_bounds c.if-s.true in record { by_index = told.0; result_bound = told.1 }
+    c.judge_transaction-s.ensures.by_index c.judge_transaction-s.ensures.at_in_bounds (sym c.is_some.ensures ∙ c.if-is_some.true) in record { by_index = told.0; result_bound = told.1 }
 
 pub loop-rows-smaller-then-row-eq-HEAD : goal.loop-rows-smaller-then-row-eq-HEAD
 loop-rows-smaller-then-row-eq-HEAD c = c.judge_transaction-s.ensures.at_in_bounds
@@ -53,7 +54,7 @@ pub loop-rows-preserved-then-row-eq-HEAD : goal.loop-rows-preserved-then-row-eq-
 loop-rows-preserved-then-row-eq-HEAD c =
     let u = c.loop-rows.invariant in
     past_one u c.judge_transaction-s.auto.verdicts c.judge_transaction-s.auto.findings
-    c.judge_transaction-s.ensures.by_index c.judge_transaction-s.ensures.at_in_bounds c.if-s.false
+    c.judge_transaction-s.ensures.by_index c.judge_transaction-s.ensures.at_in_bounds (doubtless c.judge_transaction-s.result.doubt (sym c.is_some.ensures ∙ c.if-is_some.false))
 
 pub past-w-requires : goal.past-w-requires
 past-w-requires c =

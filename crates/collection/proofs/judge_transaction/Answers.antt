@@ -64,8 +64,9 @@ returns c =
       by_index = λ m v g o owes.
           let h = headed owes.standing is first refl in
           let wrong = c.raise.ensures ∙ ap (λ (b : Bool). raised_if b a.w.index (c.judge_details-d.result.index - a.w.index) a.verdicts.now) past.known.wrong in
-          judged owes _ first h.left h.its h.here _ _ (rw h.counted at past.position) _ _ wrong c.judge_details-d.ensures.findings_after
+          rw c.then_some.ensures
+          (judged owes _ first h.left h.its h.here _ _ (rw h.counted at past.position) _ _ wrong c.judge_details-d.ensures.findings_after
           c.fits-fits.result _ c.pick.ensures
-          (λ e. fits-none T a.t ds (entries_from T 0 ds) refl (c.fits-fits.ensures (entries_from T 0 ds) past.known.most e));
+          (λ e. fits-none T a.t ds (entries_from T 0 ds) refl (c.fits-fits.ensures (entries_from T 0 ds) past.known.most e)));
       at_in_bounds = omega (arith, ap length here.left, past.position.left, length-parted (is_detail cwr22) rest, ap length past.position.here.left);
     }
