@@ -8,7 +8,7 @@ use Rattle.answers.specs.declared.Passed.{Passed}
 use Rattle.answers.specs.declared.Refusal.{Refusal}
 use Rattle.answers.proofs.Alone.{answer-alone}
 use Rattle.claims.specs.declared.Claim.{Claim}
-use Rattle.territorial.specs.declared.Over.{Over}
+use Rattle.collection.specs.declared.Over.{Over}
 use Rattle.territorial.specs.declared.Claimed.{Claimed}
 use Rattle.territorial.specs.Promises.{over_of, answer_told, over_told, OneFits}
 

@@ -8,6 +8,7 @@ use mathlib.Core.Option.{Option, none, some}
 use lib.Dec.{leb}
 use lib.ListN.{length}
 use borrow.Author.Tests.{leb-true}
+use Rattle.std.specs.Prelude.{Some}
 use Rattle.format.specs.Bytes.{Bytes}
 use Rattle.format.specs.Table.{unknown}
 use Rattle.format.specs.Structure.{Answer, refused, passed, refusal}
@@ -132,7 +133,7 @@ module _ {tables : Tables} {table : Bytes} {t : ℕ} {f : Bytes} {room : ℕ} (v
 -- ---- one transaction more
 
 module _ {tables : Tables} {table : Bytes} {t : ℕ} {f : Bytes} {room : ℕ} {v₀ g₀ : Bytes} {s : Sought} {v g : Bytes}
-    (going : Going tables table t f room v₀ g₀ s v g) (e : s.doubtful ≡ true) where
+    (going : Going tables table t f room v₀ g₀ s v g) {first : ℕ} (e : s.doubt ≡ Some first) where
   pub still-lent : {v₁ g₁ : Bytes} → length v₁ ≡ length v → length g₁ ≡ length g → Lent f table t going.m v₁ g₁
   still-lent sameV same_g =
       let l = going.lent in

@@ -20,7 +20,7 @@ use Rattle.rules.specs.Collection.{is_party, is_claim}
 use Rattle.rules.specs.Verdicts.{finding_bytes, file_findings_by, file_verdicts_by}
 use Rattle.rules.specs.Outcome.{enough, content}
 use Rattle.rules.specs.WithTerritories.{nowhere, Claimed as RulesClaimed, claimed_findings, answer_with, claimed_by, check_claims}
-use Rattle.std.specs.Prelude.{Result, Ok}
+use Rattle.std.specs.Prelude.{Option, None, Some, Result, Ok}
 use Rattle.std.specs.Result.{IsErrAnd}
 use Rattle.std.proofs.lemmas.Result.{err_from_is_err_and}
 use Rattle.answers.specs.declared.Refusal.{Refusal}
@@ -32,7 +32,8 @@ use Rattle.claims.specs.Zeros.{no_claim}
 use Rattle.claims.specs.Entries.{entries_from}
 use Rattle.parties.specs.Ahead.{entries_at}
 use Rattle.collection.specs.declared.Sought.{Sought}
-use Rattle.collection.specs.Walk.{or_found}
+use Rattle.collection.specs.declared.Over.{Over}
+use Rattle.collection.specs.Walk.{or_over, or_found}
 use Rattle.collection.proofs.Known.{entries-fewer}
 use Rattle.territorial.specs.declared.Claimed.{Claimed}
 use Rattle.territorial.specs.Promises.{over_of, outcome, Checked}
@@ -49,14 +50,19 @@ entries-of-claims T p (d ∷ ds) =
     (λ c. rw (o, c) (omega (arith, entries-of-claims T p ds)))
     (λ c. rw (o, c) (entries-of-claims T p ds)))
 
+-- the first territory, as the walk has it
+pub told-over : (o : Option Over) → over_of o ≡ or_over o nowhere
+told-over None = refl
+told-over (Some o) = refl
+
 module _ {tables : Tables} {table : Bytes} {t : ℕ} {f : Bytes} {room : ℕ} {v₀ g₀ : Bytes} {s : Sought} {v g : Bytes}
     (going : Going tables table t f room v₀ g₀ s v g) where
-  pub doubt : s.doubtful ≡ true → Doubt table t f room s
+  pub doubt : (first : ℕ) → s.doubt ≡ Some first → Doubt table t f room first
   unfolding entries_at
-  doubt e =
-      let d = going.reached.doubts e in
+  doubt first e =
+      let d = going.reached.doubts first e in
       let T = territories_in table in
-      let rest = rest_at f s.first in
+      let rest = rest_at f first in
       let ds = span (is_detail cwr22) rest in
       let parted = length-parted (is_detail cwr22) rest in
       let few : length rest ≤ most_records = omega (arith, parted, ap length d.left, d.ends, d.standing.position.left, going.lent.few) in
@@ -82,7 +88,7 @@ module _ {tables : Tables} {table : Bytes} {t : ℕ} {f : Bytes} {room : ℕ} {v
     unfolding check_claims defined
     as-defined is long = rw (long, is)
 
-    passed-so : s.doubtful ≡ false → over_of c.over ≡ or_found s.walk nowhere → outcome (Ok c) (replicate (length cs) no_claim) v g ≡ defined
+    passed-so : s.doubt ≡ None → over_of c.over ≡ or_found s.walk nowhere → outcome (Ok c) (replicate (length cs) no_claim) v g ≡ defined
     unfolding claimed_by defined
     passed-so e found =
         let (sameV, same_g, told) = going.reached.ends e in
@@ -99,7 +105,7 @@ module _ {tables : Tables} {table : Bytes} {t : ℕ} {f : Bytes} {room : ℕ} {v
         }
 
     pub ended : answer_of (Ok c.passed) ≡ answer_with tables table t f (enough (length v₀) (length g₀)) room → length cs ≡ room
-        → s.doubtful ≡ false → over_of c.over ≡ or_found s.walk nowhere
+        → s.doubt ≡ None → over_of c.over ≡ or_found s.walk nowhere
         → Checked tables table t f cs v₀ g₀ (Ok c) (replicate (length cs) no_claim) v g
     ended is long e found = record { is = passed-so e found ∙ as-defined is long }
 

@@ -1,5 +1,5 @@
 -- Internal: where a check with a territory table stands between two transactions in doubt, and what it has come to.
-use Rattle.std.specs.Prelude.{ℕ, ◌≤◌, ◌≡◌, true, false, length}
+use Rattle.std.specs.Prelude.{ℕ, ◌≤◌, ◌≡◌, true, false, length, None, Some}
 use Rattle.std.proofs.Math.Option.{none}
 use Rattle.format.specs.Bytes.{Bytes}
 use Rattle.format.specs.Table.{unknown}
@@ -36,21 +36,21 @@ pub record Going (tables : Tables) (table : Bytes) (t : ℕ) (f : Bytes) (room :
   pub fits : crowded_from room 0 (rest_at f 0) ≡ none
 
 -- what is known of a transaction in doubt
-pub record Doubt (table : Bytes) (t : ℕ) (f : Bytes) (room : ℕ) (s : Sought) : Type 0 where
-  pub within : Within f table s.first 0
-  pub fits : length (entries_at f table s.first 0) ≤ room
-  pub few : length (entries_at f table s.first 0) ≤ most_records
+pub record Doubt (table : Bytes) (t : ℕ) (f : Bytes) (room first : ℕ) : Type 0 where
+  pub within : Within f table first 0
+  pub fits : length (entries_at f table first 0) ≤ room
+  pub few : length (entries_at f table first 0) ≤ most_records
   pub right : right_territories table ≡ true
   pub small : t ≤ largest_tolerance
 
 -- its claims are counted
 abbrev pub Doubted : Bytes → ℕ → Bytes → Sought → ℕ → Bytes → Bytes → Type 0
 Doubted table t f s over v g =
-    (tables : Tables) × (room : ℕ) × (v₀ : Bytes) × (g₀ : Bytes) × Going tables table t f room v₀ g₀ s v g × (s.doubtful ≡ true)
-    × (over ≡ over_in table t (entries_at f table s.first 0))
+    (first : ℕ) × (tables : Tables) × (room : ℕ) × (v₀ : Bytes) × (g₀ : Bytes) × Going tables table t f room v₀ g₀ s v g × (s.doubt ≡ Some first)
+    × (over ≡ over_in table t (entries_at f table first 0))
 
 abbrev pub start_walk : Walk
-start_walk = record { at = 0; index = 0; number = 0; found = false; transaction = 0; territory = 0; header = 0 }
+start_walk = record { at = 0; index = 0; number = 0; over = None; header = 0 }
 
 -- a file that passes can be walked over, and has as many records as are told
 abbrev pub Counted : Bytes → Answer → Type 0

@@ -8,7 +8,7 @@ use Rattle.answers.specs.declared.Refusal.{Refusal}
 use Rattle.answers.specs.Numbers.{answer_of, refused_of}
 use Rattle.claims.specs.declared.Claim.{Claim}
 use Rattle.claims.specs.Zeros.{no_claim}
-use Rattle.territorial.specs.declared.Over.{Over}
+use Rattle.collection.specs.declared.Over.{Over}
 use Rattle.territorial.specs.declared.Claimed.{Claimed}
 
 abbrev pub over_of : Option Over → RulesOver

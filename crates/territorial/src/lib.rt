@@ -9,27 +9,21 @@ ghost use Rattle.format.specs.Table.{unknown};
 ghost use Rattle.format.specs.Structure.{most_bytes, most_records};
 ghost use Rattle.rules.specs.Tables.{Tables as LentTables};
 ghost use Rattle.rules.specs.Outcome.{enough};
-ghost use Rattle.rules.specs.WithTerritories.{answer_with, in_list, nowhere};
+ghost use Rattle.rules.specs.WithTerritories.{answer_with, in_list};
 ghost use Rattle.answers.specs.Numbers.{answer_of};
 ghost use Rattle.tables.specs.Which.{lent_in};
 ghost use Rattle.structure.specs.Cursor.{Here};
 ghost use Rattle.transactions.specs.Walk.{rest_at};
-ghost use Rattle.collection.specs.Walk.{steps_left, or_found};
-ghost use Rattle.territorial.specs.Promises.{over_of, Checked};
+ghost use Rattle.collection.specs.Walk.{steps_left};
+ghost use Rattle.territorial.specs.Promises.{Checked};
 ghost use Rattle.territorial.specs.Progress.{Passes, Going, Doubted, start_walk, Counted};
 
 use answers::{Answer, Passed, Refusal};
 use claims::Claim;
+pub use collection::Over;
 use collection::{Sought, Walk};
 use tables::Tables;
 use values::Tolerance;
-
-// The first territory that is over: the number of its transaction, counted from 0 over the whole file, and its position in the table.
-#[derive(Clone, Copy)]
-pub struct Over {
-    pub transaction: usize,
-    pub territory: usize,
-}
 
 // What is told of a file that passes.
 #[derive(Clone, Copy)]
@@ -82,9 +76,7 @@ fn start() -> Walk
         at: 0,
         index: 0,
         number: 0,
-        found: false,
-        transaction: 0,
-        territory: 0,
+        over: None,
         header: 0,
     }
 }
@@ -132,18 +124,6 @@ fn go_on(
     collection::seek(file, territories, tolerance, settled, verdicts, findings)
 }
 
-fn first_over(w: Walk) -> Option<Over>
-    ensures { over_of result ≡ or_found w nowhere }
-{
-    if w.found {
-        return Some(Over {
-            transaction: w.transaction,
-            territory: w.territory,
-        });
-    }
-    None
-}
-
 // ---- the call
 
 // Checks a file with a territory table. Refused, it has written nothing; passed, the buffers are filled, and the list is all zeros. Only the
@@ -172,14 +152,14 @@ pub fn check(
         findings.len(),
     )?;
     let mut s = begin(file, tables, territories, tolerance, verdicts, findings);
-    while s.doubtful {
-        let n = claim_list::fill(file, territories, s.first, claims);
+    while let Some(first) = s.doubt {
+        let n = claim_list::fill(file, territories, first, claims);
         let over = claim_list::exceeding(&claims[..n], territories, tolerance);
         s = go_on(file, territories, tolerance, s, over, verdicts, findings);
     }
     claim_list::clear(claims, room);
     Ok(Claimed {
         passed,
-        over: first_over(s.walk),
+        over: s.walk.over,
     })
 }

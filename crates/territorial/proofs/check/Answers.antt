@@ -5,7 +5,7 @@ use Rattle.std.proofs.Math.Seq.{take_at}
 use Rattle.claims.specs.Entries.{over_in}
 use Rattle.parties.specs.Ahead.{entries_at}
 use Rattle.tables.specs.Which.{lent_in}
-use Rattle.territorial.proofs.Laws.{doubt, ended, refused-so, all-cleared}
+use Rattle.territorial.proofs.Laws.{doubt, ended, refused-so, all-cleared, told-over}
 use Rattle.territorial.proofs.check.Goals as goal
 
 pub returns-in_err-passed : goal.returns-in_err-passed
@@ -19,12 +19,12 @@ loop-s-init c = (c.begin-s.ensures _ (_, _, _, c.in_ok-passed.ensures), refl)
 
 pub fill-n-requires : goal.fill-n-requires
 fill-n-requires c =
-    let d = doubt c.loop-s.invariant.0 c.loop-s-test.true in
+    let d = doubt c.loop-s.invariant.0 c.in-Some.first c.in-Some.is in
     (d.within, omega (arith, d.fits, c.loop-s.invariant.1))
 
 pub exceeding-over-requires : goal.exceeding-over-requires
 exceeding-over-requires c =
-    let d = doubt c.loop-s.invariant.0 c.loop-s-test.true in
+    let d = doubt c.loop-s.invariant.0 c.in-Some.first c.in-Some.is in
     let long : length c.fill-n.new.claims ≡ length c.args.claims.now = c.fill-n.auto.claims ∙ c.loop-s.invariant.1 in
     let count : c.fill-n.result ≤ length c.fill-n.new.claims = omega (arith, c.fill-n.ensures.0, d.fits, long) in
     let listed = length-take-le c.fill-n.result c.fill-n.new.claims count in
@@ -34,14 +34,15 @@ pub go_on-s-requires : goal.go_on-s-requires
 go_on-s-requires c =
     let a = c.args in
     let n = c.fill-n.result in
-    let es = entries_at a.file.now a.territories.now c.loop-s.s.first 0 in
+    let es = entries_at a.file.now a.territories.now c.in-Some.first 0 in
     let all = ap (take n) c.fill-n.ensures.1 ∙ take_at es (drop n c.loop-s.claims) n (sym c.fill-n.ensures.0) in (
+      c.in-Some.first,
       lent_in a.tables,
       length a.claims.now,
       a.verdicts.now,
       a.findings.now,
       c.loop-s.invariant.0,
-      c.loop-s-test.true,
+      c.in-Some.is,
       c.exceeding-over.ensures ∙ ap (over_in a.territories.now a.tolerance) all,
     )
 
@@ -57,4 +58,4 @@ pub returns : goal.returns
 returns c =
     let inv = c.loop-s.invariant in
     rw (c.clear.ensures ∙ all-cleared (length c.args.claims.now) c.loop-s.claims inv.1)
-    (ended inv.0 c.args.claims.now _ c.in_ok-passed.ensures refl c.loop-s-test.false c.first_over.ensures)
+    (ended inv.0 c.args.claims.now _ c.in_ok-passed.ensures refl c.in_default.is (told-over c.loop-s.s.walk.over))
