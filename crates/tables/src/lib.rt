@@ -4,7 +4,7 @@
 
 ghost use Rattle.std.specs.Prelude.{◌≡◌, true, List, ℕ, ◌+◌, ◌*◌, ◌<◌, ◌≤◌, length, take, drop, replicate};
 ghost use Rattle.format.specs.Bytes.{Bytes, among};
-ghost use Rattle.rules.specs.Tables.{Tables as LentTables, tables_of, language_size, society_size, category_size, most_entries, right_table, entries, is_in};
+ghost use Rattle.rules.specs.Tables.{Tables as LentTables, language_size, society_size, category_size, most_entries, right_table, entries, is_in};
 ghost use Rattle.tables.specs.Index.{hint_count, part_size, slot_count, key_of, hint_of, AreBytes, Free, Ascending, Stands, Kept, Inserted};
 ghost use Rattle.tables.specs.Index.{Part, Indexed};
 ghost use Rattle.tables.specs.Which.{lent_in, size_of, table_of, first_of};
@@ -136,20 +136,6 @@ impl Tables<'_> {
         index_table(slots, SOCIETIES, self.societies, SOCIETY);
         index_table(slots, CATEGORIES, self.categories, CATEGORY);
     }
-}
-
-// The same of three tables, each by itself.
-pub fn index(languages: &[u8], societies: &[u8], categories: &[u8], slots: &mut Slots)
-    requires { (right_table language_size languages.now ≡ true) × (right_table society_size societies.now ≡ true)
-        × (right_table category_size categories.now ≡ true) × (slots.old ≡ replicate slot_count 0) }
-    ensures { Indexed (tables_of languages.now societies.now categories.now) slots.new }
-{
-    let tables = Tables {
-        languages,
-        societies,
-        categories,
-    };
-    tables.index(slots);
 }
 
 // ---- the index is asked
