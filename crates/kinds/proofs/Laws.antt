@@ -12,9 +12,12 @@ use borrow.Author.Tests.{eqb-true}
 use Rattle.format.specs.Bytes.{Bytes, every, same_bytes, among}
 use Rattle.format.specs.Table.{Class, hdr, grh, head, detail, grt, trl, unknown, known, Row as FormatRow, row, no_type, row_of, class_of, len_of}
 use Rattle.format.specs.Cwr22.{rows22, cwr22}
-use Rattle.format.specs.Checks.{code, is, cls}
+use Rattle.format.specs.Checks.{is, cls}
 use Rattle.format.specs.Stages.{stages, spots, begins}
-use Rattle.kinds.specs.Rows.{code_row, kinds, row_for, type_of, no_row, first_row, spots_of, sorts, sort_from, sort_of}
+use Rattle.kinds.specs.Rows.{class_in, code_row, kinds, row_for, type_of, no_row, first_row, spots_of, types_of, sort_among, sorts, sort_of}
+use Rattle.kinds.specs.declared.Class.{Class as CodeClass}
+use Rattle.kinds.specs.declared.Sort.{Sort}
+use Rattle.kinds.specs.declared.Sort.TheVariants.{Nothing}
 use Rattle.kinds.specs.declared.Row.{Row}
 use Rattle.format.proofs.Tests.{by_cases, both, same→eq}
 use Rattle.kinds.proofs.First.{has, distinct, only, short}
@@ -70,13 +73,20 @@ short_row r h = sym (short kinds (take 3 r) (rw length-take (omega arith))) ∙ 
 
 -- ---- class and length
 
-code-class : (f : FormatRow) → (code_row f).class ≡ code (class_of f)
-code-class (row type n c) = refl
+-- the code's class of a row stands for the format's
+code-class : (f : FormatRow) → class_in (code_row f).class ≡ class_of f
+code-class (row type n hdr) = refl
+code-class (row type n grh) = refl
+code-class (row type n head) = refl
+code-class (row type n detail) = refl
+code-class (row type n grt) = refl
+code-class (row type n trl) = refl
+code-class (row type n unknown) = refl
 
 code-length : (f : FormatRow) → (code_row f).length ≡ len_of f
 code-length (row type n c) = refl
 
-pub class-is : (r : Bytes) → (row_for (take 3 r)).class ≡ code (cls cwr22 r)
+pub class-is : (r : Bytes) → class_in (row_for (take 3 r)).class ≡ cls cwr22 r
 unfolding row_for rows22
 class-is r = code-class (row_of rows22 (take 3 r))
 
@@ -175,7 +185,7 @@ alone-begins type =
 
 -- ---- sorts
 
-sorts-listed : every (every listed) sorts ≡ true
+sorts-listed : every (λ s. every listed (types_of s)) sorts ≡ true
 unfolding listed rows22
 sorts-listed = refl
 
@@ -185,25 +195,15 @@ sort-is type =
     row-cases (λ (f : FormatRow). (code_row f).sort ≡ sort_of type) fits type
     (λ n c e. refl)
     rows22 all_fit
-    (λ none. ap (λ (r : Row). r.sort) code-unknown ∙ sym (no-sort-of listed type (unlisted type none) 1 sorts sorts-listed))
+    (λ none. ap (λ (r : Row). r.sort) code-unknown ∙ sym (no-sort-of listed type (unlisted type none) sorts sorts-listed))
 
--- the list of a sort holds the type, and no list holds a type of none
-module _ (type : Bytes) where
-  none_below : (m k : ℕ) (ls : List (List Bytes)) → sort_from m type ls ≡ k → k < m → k ≡ 0
-  none_below m k [] e h = sym e
-  none_below m k (l ∷ ls) e h = by_cases (among type l) (λ q. absurd (omega (arith, rw q at e))) (λ q. none_below (suc m) k ls (rw q at e) (omega arith))
+-- a type is one of those of its sort, if it has one
+module _ (type : Bytes) (s : Sort) (some : s ≡ Nothing → ⊥) where
+  one-of : (ss : List Sort) → sort_among type ss ≡ s → among type (types_of s) ≡ true
+  one-of [] e = absurd (some (sym e))
+  one-of (x ∷ ss) e =
+      by_cases (among type (types_of x)) (λ q. ap (λ (y : Sort). among type (types_of y)) (sym (rw q at e)) ∙ q) (λ q. one-of ss (rw q at e))
 
-  in_list : (n k : ℕ) (ls : List (List Bytes)) → sort_from (suc n) type ls ≡ suc (n + k) → among type (get_or ls k []) ≡ true
-  in_list n k [] e = absurd (omega arith)
-  in_list n zero (l ∷ ls) e =
-      by_cases (among type l) (λ q. q) (λ q. absurd (omega (arith, none_below (suc (suc n)) (suc (n + 0)) ls (rw q at e) (omega arith))))
-  in_list n (suc k) (l ∷ ls) e =
-      by_cases (among type l) (λ q. absurd (omega (arith, rw q at e))) (λ q. in_list (suc n) k ls ((rw q at e) ∙ omega arith))
-
-  module _ (kind : Row) (its : kind ≡ row_for type) where
-    sort-here : sort_from 1 type sorts ≡ kind.sort
-    unfolding sort_of
-    sort-here = sym (sort-is type) ∙ sym (ap (λ (r : Row). r.sort) its)
-
-    pub of-sort : (k : ℕ) → kind.sort ≡ suc k → among type (get_or sorts k []) ≡ true
-    of-sort k e = in_list 0 k sorts (sort-here ∙ e ∙ omega arith)
+  pub of-sort : (kind : Row) → kind ≡ row_for type → kind.sort ≡ s → among type (types_of s) ≡ true
+  unfolding sort_of
+  of-sort kind its e = one-of sorts (sym (sort-is type) ∙ sym (ap (λ (r : Row). r.sort) its) ∙ e)

@@ -10,7 +10,9 @@ use Rattle.format.specs.Bytes.{Bytes, every}
 use Rattle.format.specs.Stages.{Spot, spot}
 use Rattle.format.proofs.Tests.{both}
 use Rattle.format.proofs.Spots.{not-among}
-use Rattle.kinds.specs.Rows.{sort_from}
+use Rattle.kinds.specs.Rows.{types_of, sort_among}
+use Rattle.kinds.specs.declared.Sort.{Sort}
+use Rattle.kinds.specs.declared.Sort.TheVariants.{Nothing}
 
 unfoldable pub same_spots : List Spot → List Spot → Bool
 same_spots [] [] = true
@@ -33,8 +35,8 @@ same_spots→eq (x ∷ xs) (y ∷ ys) e =
 
 -- a type that fails a test has no sort where all types of the sorts pass it
 module _ (p : Bytes → Bool) (type : Bytes) (fails : p type ≡ false) where
-  pub no-sort-of : (n : ℕ) (ls : List (List Bytes)) → every (every p) ls ≡ true → sort_from n type ls ≡ 0
-  no-sort-of n [] q = refl
-  no-sort-of n (l ∷ ls) q =
-      let b = both (every p l) (every (every p) ls) q in
-      rw (not-among p type fails l b.0, no-sort-of (suc n) ls b.1)
+  pub no-sort-of : (ss : List Sort) → every (λ s. every p (types_of s)) ss ≡ true → sort_among type ss ≡ Nothing
+  no-sort-of [] q = refl
+  no-sort-of (s ∷ ss) q =
+      let b = both (every p (types_of s)) (every (λ t. every p (types_of t)) ss) q in
+      rw (not-among p type fails (types_of s) b.0, no-sort-of ss b.1)
