@@ -38,12 +38,9 @@ pub picked : (first : Bool) (a b m n : ℕ) → a ≡ word_of (decimal 8 m) → 
 picked true a b m n e f = e
 picked false a b m n e f = f
 
--- of a known class it is known which count grows
-pub grown-at : (x p k a b : ℕ) → p ≡ k → x ≡ word_of (decimal 8 (cond (eqb p 2) a b + 1)) → x ≡ word_of (decimal 8 (cond (eqb k 2) a b + 1))
-grown-at x p k a b e f = f ∙ ap (λ (q : ℕ). word_of (decimal 8 (cond (eqb q 2) a b + 1))) e
-
-pub grown-else : (x p a b : ℕ) → (p ≡ 2 → ⊥) → x ≡ word_of (decimal 8 (cond (eqb p 2) a b + 1)) → x ≡ word_of (decimal 8 (b + 1))
-grown-else x p a b n2 f = f ∙ rw (ne_eqb p 2 n2)
+-- where no header comes, it is the second
+pub grown-else : (x : ℕ) (first : Bool) (a b : ℕ) → first ≡ false → x ≡ word_of (decimal 8 (cond first a b + 1)) → x ≡ word_of (decimal 8 (b + 1))
+grown-else x first a b e f = f ∙ rw e
 
 -- a header's number is its details' number
 pub one-before : (x n : ℕ) → x ≡ word_of (decimal 8 n) → x ≡ word_of (decimal 8 (pred (n + 1)))

@@ -6,12 +6,13 @@ ghost use Rattle.format.specs.Bytes.{Bytes, same_bytes, decimal, bytes_of};
 ghost use Rattle.format.proofs.Decimal.{length-decimal, length-bytes};
 ghost use Rattle.format.specs.Fields.{field_of};
 ghost use Rattle.format.specs.Table.{at, width};
-ghost use Rattle.format.specs.Checks.{none_counted, count, class_at, slot, expected};
+ghost use Rattle.format.specs.Checks.{none_counted, count, slot, expected};
+ghost use Rattle.kinds.specs.Rows.{class_in};
 ghost use Rattle.text.specs.Words.{word_of};
 ghost use Rattle.counts.specs.Counting.{counts_in, Written, Kept, CanGrow};
 ghost use Rattle.counts.specs.Carried.{pair, words, digits_of, start_of, size_of, over, Carried};
 
-use kinds::{DETAIL, GRH, GRT, HEAD, TRL};
+use kinds::Class;
 
 // What was counted before a record, as the format's `Counts`.
 #[derive(Clone, Copy)]
@@ -76,16 +77,16 @@ impl Counts {
     }
 
     // With one record more, of that class.
-    pub fn with(mut self, class: u8) -> Counts
+    pub fn with(mut self, class: Class) -> Counts
         requires { CanGrow self }
-        ensures result_value { counts_in result ≡ count (counts_in self) (class_at class) }
+        ensures result_value { counts_in result ≡ count (counts_in self) (class_in class) }
         ensures kept { Kept result × (result.records ≡ self.records + 1) }
     {
-        let next = self.grown(class == HEAD);
+        let next = self.grown(class == Class::Head);
         let closing = text::next_eight(self.closing_word, self.group_records + 1);
         self.records += 1;
         match class {
-            GRH => {
+            Class::Grh => {
                 self.groups += 1;
                 self.in_group = 0; // so that each group numbers its transactions anew
                 self.group_records = 1;
@@ -96,7 +97,7 @@ impl Counts {
                 self.closing_word = TWO;
                 self
             }
-            HEAD => {
+            Class::Head => {
                 self.transactions += 1;
                 self.in_group += 1;
                 self.group_records += 1;
@@ -130,35 +131,35 @@ impl Counts {
 
     // The numbers that the next record has to carry, if it is of that class. Transactions are numbered from 0: a header has how many
     // began before it, and a detail one less, since its header is counted. GRT and TRL count themselves among the records.
-    pub fn numbers_for(self, class: u8) -> Numbers
+    pub fn numbers_for(self, class: Class) -> Numbers
         requires { CanGrow self }
-        ensures { Carried (counts_in self) (class_at class) result }
+        ensures { Carried (counts_in self) (class_in class) result }
     {
         match class {
-            GRH => Numbers::Group(self.groups + 1),
-            HEAD => Numbers::Prefix(self.header_word, ZERO),
-            DETAIL => Numbers::Prefix(self.detail_word, self.record_word),
-            GRT => Numbers::Closing(self.groups, self.header_word, self.closing_word),
-            TRL => Numbers::Totals(self.groups, self.transactions, self.records + 1),
-            _ => Numbers::Nothing,
+            Class::Grh => Numbers::Group(self.groups + 1),
+            Class::Head => Numbers::Prefix(self.header_word, ZERO),
+            Class::Detail => Numbers::Prefix(self.detail_word, self.record_word),
+            Class::Grt => Numbers::Closing(self.groups, self.header_word, self.closing_word),
+            Class::Trl => Numbers::Totals(self.groups, self.transactions, self.records + 1),
+            Class::Hdr | Class::Unknown => Numbers::Nothing,
         }
     }
 
     // Whether the next record, of that class, carries its numbers.
-    pub fn holds(self, class: u8, record: &[u8]) -> bool
+    pub fn holds(self, class: Class, record: &[u8]) -> bool
         requires can_grow { CanGrow self }
-        requires class_in_bounds { at (class_at class) + width (class_at class) ≤ length «record».now }
-        ensures { result ≡ same_bytes (slot (class_at class) «record».now) (expected (counts_in self) (class_at class)) }
+        requires class_in_bounds { at (class_in class) + width (class_in class) ≤ length «record».now }
+        ensures { result ≡ same_bytes (slot (class_in class) «record».now) (expected (counts_in self) (class_in class)) }
     {
         self.numbers_for(class).stand_in(record)
     }
 
     // Writes its numbers into the next record, of that class, which stands in out.
-    pub fn put(self, class: u8, out: &mut [u8])
+    pub fn put(self, class: Class, out: &mut [u8])
         requires can_grow { CanGrow self }
-        requires class_in_bounds { at (class_at class) + width (class_at class) ≤ length out.old }
-        ensures { out.new ≡ take (at (class_at class)) out.old ++ expected (counts_in self) (class_at class)
-            ++ drop (at (class_at class) + width (class_at class)) out.old }
+        requires class_in_bounds { at (class_in class) + width (class_in class) ≤ length out.old }
+        ensures { out.new ≡ take (at (class_in class)) out.old ++ expected (counts_in self) (class_in class)
+            ++ drop (at (class_in class) + width (class_in class)) out.old }
     {
         self.numbers_for(class).write_into(out)
     }
