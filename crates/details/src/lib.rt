@@ -15,7 +15,7 @@ use chains::Chains;
 use edits::Found;
 use edits::publisher::Publisher;
 use edits::writer::Writer;
-use kinds::{PUBLISHER, Row, WRITER};
+use kinds::{Row, Sort};
 use tally::Tally;
 
 // After one detail: its own findings, and what is known of the transaction with it. The chains' tallies are updated where they stand.
@@ -32,28 +32,31 @@ pub fn judge(record: &[u8], row: Row, y: Tally, slots: &tables::Slots, chains: &
     ensures { (tables : Tables) (ds : List Bytes) → Indexed tables slots.now → Known y ds → Tallied chains.old ds
         → Stepped tables ds «record».now result × Tallied chains.new (ds ++ «record».now ∷ []) }
 {
-    let sort = row.sort;
-    if sort == PUBLISHER {
-        let p = Publisher::read(record);
-        let known = chains.knows_e(p);
-        let found = edits::publisher::judge(p, record, slots, y.last, known);
-        chains.join(p);
-        return Step {
-            found,
-            tally: y.with_publisher(row, p),
-        };
-    }
-    if sort == WRITER {
-        let w = Writer::read(record);
-        let found = edits::writer::judge(w, record);
-        return Step {
-            found,
-            tally: y.with_writer(row, w),
-        };
-    }
-    let found = edits::other::judge(record, row);
-    Step {
-        found,
-        tally: y.with_other(row),
+    match row.sort {
+        Sort::Publisher => {
+            let p = Publisher::read(record);
+            let known = chains.knows_e(p);
+            let found = edits::publisher::judge(p, record, slots, y.last, known);
+            chains.join(p);
+            Step {
+                found,
+                tally: y.with_publisher(row, p),
+            }
+        }
+        Sort::Writer => {
+            let w = Writer::read(record);
+            let found = edits::writer::judge(w, record);
+            Step {
+                found,
+                tally: y.with_writer(row, w),
+            }
+        }
+        _ => {
+            let found = edits::other::judge(record, row);
+            Step {
+                found,
+                tally: y.with_other(row),
+            }
+        }
     }
 }

@@ -3,11 +3,12 @@ ghost use Rattle.std.specs.Prelude.{◌≡◌, true, List, length};
 ghost use Rattle.format.specs.Bytes.{Bytes};
 ghost use Rattle.rules.specs.Tables.{Tables};
 ghost use Rattle.rules.specs.Other.{is24, is44, is45, is46};
+ghost use Rattle.kinds.specs.declared.Sort.TheVariants.{Publisher, Writer};
 ghost use Rattle.edits.specs.Kinds.{VersionRecord, PerformerRecord, RecordingRecord, Stands};
 ghost use Rattle.edits.specs.Judged.{Judged};
 
 use super::{Field, Found, gather};
-use kinds::{EWT, MISPLACED, PER, REC, Row, VER};
+use kinds::{Row, Sort};
 use std::marker::Model;
 
 // ---- finding 24 holds of these types, whatever they hold
@@ -111,16 +112,14 @@ fn nothing() -> Found
 
 // A detail that is neither publisher nor writer, by its row.
 pub fn judge(record: &[u8], row: Row) -> Found
-    requires { Stands row «record».now × (row.sort ≡ 2 → ⊥) × (row.sort ≡ 3 → ⊥) }
+    requires { Stands row «record».now × (row.sort ≡ Publisher → ⊥) × (row.sort ≡ Writer → ⊥) }
     ensures { (tables : Tables) (before : List Bytes) → Judged tables before «record».now result }
 {
     match row.sort {
-        // Two arms: after `EWT | VER` the proof knows neither.
-        EWT => version(record),
-        VER => version(record),
-        PER => performer(record),
-        REC => recording(record),
-        MISPLACED => misplaced(),
+        Sort::Ewt | Sort::Ver => version(record),
+        Sort::Per => performer(record),
+        Sort::Rec => recording(record),
+        Sort::Misplaced => misplaced(),
         _ => nothing(),
     }
 }

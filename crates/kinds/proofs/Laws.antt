@@ -14,10 +14,10 @@ use Rattle.format.specs.Table.{Class, hdr, grh, head, detail, grt, trl, unknown,
 use Rattle.format.specs.Cwr22.{rows22, cwr22}
 use Rattle.format.specs.Checks.{is, cls}
 use Rattle.format.specs.Stages.{stages, spots, begins}
-use Rattle.kinds.specs.Rows.{class_in, code_row, kinds, row_for, type_of, no_row, first_row, spots_of, types_of, sort_among, sorts, sort_of}
+use Rattle.kinds.specs.Rows.{class_in, code_row, kinds, row_for, type_of, no_row, first_row, spots_of, types_of, sort_among, sorts, sort_of, place_of, same_sort}
 use Rattle.kinds.specs.declared.Class.{Class as CodeClass}
 use Rattle.kinds.specs.declared.Sort.{Sort}
-use Rattle.kinds.specs.declared.Sort.TheVariants.{Nothing}
+use Rattle.kinds.specs.declared.Sort.TheVariants.{Nothing, Header, Publisher, Writer, Ewt, Ver, Per, Rec, Instrument, Misplaced, PublishersClaim, WritersClaim}
 use Rattle.kinds.specs.declared.Row.{Row}
 use Rattle.format.proofs.Tests.{by_cases, both, same→eq}
 use Rattle.kinds.proofs.First.{has, distinct, only, short}
@@ -207,3 +207,25 @@ module _ (type : Bytes) (s : Sort) (some : s ≡ Nothing → ⊥) where
   pub of-sort : (kind : Row) → kind ≡ row_for type → kind.sort ≡ s → among type (types_of s) ≡ true
   unfolding sort_of
   of-sort kind its e = one-of sorts (sym (sort-is type) ∙ sym (ap (λ (r : Row). r.sort) its) ∙ e)
+
+-- sorts at one place are one
+at_place : ℕ → Sort
+at_place n = get_or (Nothing ∷ sorts) n Nothing
+
+at-place : (s : Sort) → at_place (place_of s) ≡ s
+unfolding at_place
+at-place Nothing = refl
+at-place Header = refl
+at-place Publisher = refl
+at-place Writer = refl
+at-place Ewt = refl
+at-place Ver = refl
+at-place Per = refl
+at-place Rec = refl
+at-place Instrument = refl
+at-place Misplaced = refl
+at-place PublishersClaim = refl
+at-place WritersClaim = refl
+
+pub same-sort→eq : (a b : Sort) → same_sort a b ≡ true → a ≡ b
+same-sort→eq a b e = sym (at-place a) ∙ ap at_place (eqb-true (place_of a) (place_of b) e) ∙ at-place b

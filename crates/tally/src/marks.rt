@@ -8,7 +8,7 @@ ghost use Rattle.edits.specs.Readings.{WriterReads};
 ghost use Rattle.tally.specs.Marked.{Marked};
 
 use edits::writer::Writer;
-use kinds::{EWT, INSTRUMENT, Row, VER};
+use kinds::{Row, Sort};
 
 #[derive(Clone, Copy, Default)]
 pub struct Marks {
@@ -50,9 +50,9 @@ impl Marks {
         ensures { (ds : List Bytes) (r : Bytes) → Marked self ds → row ≡ row_for (take 3 r) → is_writer r ≡ false
             → Marked result (ds ++ r ∷ []) }
     {
-        let ewt = row.sort == EWT;
-        let ver = row.sort == VER;
-        self.instrument = (row.sort == INSTRUMENT) | self.instrument;
+        let ewt = row.sort == Sort::Ewt;
+        let ver = row.sort == Sort::Ver;
+        self.instrument = (row.sort == Sort::Instrument) | self.instrument;
         self.ewts = (ewt & self.ewt) | self.ewts;
         self.ewt = ewt | self.ewt;
         self.vers = (ver & self.ver) | self.vers;
