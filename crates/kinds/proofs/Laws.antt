@@ -19,6 +19,9 @@ use Rattle.kinds.specs.declared.Class.{Class as CodeClass}
 use Rattle.kinds.specs.declared.Sort.{Sort}
 use Rattle.kinds.specs.declared.Sort.TheVariants.{Nothing, Header, Publisher, Writer, Ewt, Ver, Per, Rec, Instrument, Misplaced, PublishersClaim, WritersClaim}
 use Rattle.kinds.specs.declared.Row.{Row}
+use Rattle.kinds.specs.contracts.Sort as TheSort
+use denote.Enum.Bare.{sameb}
+use denote.Enum.Declared.{tag_of}
 use Rattle.format.proofs.Tests.{by_cases, both, same→eq}
 use Rattle.kinds.proofs.First.{has, distinct, only, short}
 use Rattle.format.proofs.Spots.{types_pass, no-spots, begins-none}
@@ -229,3 +232,21 @@ at-place WritersClaim = refl
 
 pub same-sort→eq : (a b : Sort) → same_sort a b ≡ true → a ≡ b
 same-sort→eq a b e = sym (at-place a) ∙ ap at_place (eqb-true (place_of a) (place_of b) e) ∙ at-place b
+
+-- what == says of two sorts
+same-tag : (s : Sort) → tag_of TheSort.the_type s ≡ place_of s
+same-tag Nothing = refl
+same-tag Header = refl
+same-tag Publisher = refl
+same-tag Writer = refl
+same-tag Ewt = refl
+same-tag Ver = refl
+same-tag Per = refl
+same-tag Rec = refl
+same-tag Instrument = refl
+same-tag Misplaced = refl
+same-tag PublishersClaim = refl
+same-tag WritersClaim = refl
+
+pub same-is : (a b : Sort) → sameb TheSort.the_type a b ≡ same_sort a b
+same-is a b = cc (same-tag a, same-tag b)

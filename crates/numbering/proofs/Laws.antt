@@ -11,10 +11,11 @@ use Rattle.format.specs.Bytes.{Bytes, unlines, put}
 use Rattle.format.specs.Table.{Class, start, at, width}
 use Rattle.format.specs.Cwr22.{cwr22}
 use Rattle.format.specs.Lines.{lines}
-use Rattle.format.specs.Checks.{Counts, none_counted, count, expected, cut, cls, class_at, check6, Along}
+use Rattle.format.specs.Checks.{Counts, none_counted, count, expected, cut, cls, check6, Along}
 use Rattle.format.specs.Numbering.{number, held, records_in, numbered_file}
 use Rattle.format.proofs.Slots.{overwritten}
-use Rattle.kinds.specs.Rows.{row_for, shape_of}
+use Rattle.kinds.specs.Rows.{class_in, row_for, shape_of}
+use Rattle.kinds.specs.declared.Class.TheVariants.{Unknown}
 use Rattle.kinds.specs.declared.Row.{Row}
 use Rattle.kinds.specs.declared.Shape.{Shape}
 use Rattle.lines.specs.Scan.{text_length}
@@ -22,7 +23,6 @@ use Rattle.counts.specs.Counting.{counts_in}
 use Rattle.structure.specs.Rest.{is_good}
 use Rattle.structure.specs.Walk.{Bounded, Next}
 use Rattle.structure.specs.declared.standing.Stand.{Stand}
-use Rattle.structure.proofs.Rows.{row-six}
 use Rattle.structure.proofs.Turns.{bounded-start, bounded-on}
 use Rattle.structure.proofs.Cursor.{to_end}
 use Rattle.structure.proofs.Here.{record_at, fits, here-three, long, records-here, fine-after, all_after, line-here, row-size, row-numbers, row_is}
@@ -71,7 +71,7 @@ pub record Filling (f old : Bytes) (out : Bytes) (s : Stand) : Type 0 where
   pub owed : take s.at out ++ unlines (number (counts_in s.counts) (map (held cwr22) (records_in (lines (drop s.at f))))) ≡ numbered_file cwr22 f
   pub kept : drop s.at out ≡ drop s.at old
 
-pub filling-start : (f old : Bytes) → Sized f → (s : Stand) → (s.at ≡ 0) × (s.class ≡ 6) → counts_in s.counts ≡ none_counted → Filling f old old s
+pub filling-start : (f old : Bytes) → Sized f → (s : Stand) → (s.at ≡ 0) × (s.class ≡ Unknown) → counts_in s.counts ≡ none_counted → Filling f old old s
 unfolding numbered_file
 filling-start f old sized s e n =
     record {
@@ -112,21 +112,21 @@ module _ {f old out : Bytes} {s : Stand} (F : Filling f old out s) (here : s.at 
   pub ends : {n : ℕ} → n ≡ shape.length → s.at + n + 2 ≤ length f
   ends e = rw (e, size) (fits f s.at here F.fine)
 
-  numbers_fit : at (class_at shape.class) + width (class_at shape.class) ≤ length (record_at f s.at)
+  numbers_fit : at (class_in shape.class) + width (class_in shape.class) ≤ length (record_at f s.at)
   numbers_fit = rw placed (row-numbers f s.at here F.fine F.all row refl)
 
-  pub room : at (class_at shape.class) + width (class_at shape.class) ≤ shape.length
+  pub room : at (class_in shape.class) + width (class_in shape.class) ≤ shape.length
   room = omega (arith, numbers_fit, long f s.at here F.fine, size)
 
-  class-here : class_at shape.class ≡ cls cwr22 (record_at f s.at)
-  class-here = ap class_at placed ∙ row_is f s.at here F.fine F.all row refl
+  class-here : class_in shape.class ≡ cls cwr22 (record_at f s.at)
+  class-here = ap class_in placed ∙ row_is f s.at here F.fine F.all row refl
 
   -- the bytes written, and after them the numbered rest
   module _ (e : ℕ) (q : e ≡ s.at + shape.length + 2) (ys : Bytes)
       (w : ys
-      ≡ take (at (class_at shape.class)) (take (e - s.at) (drop s.at f))
-      ++ expected (counts_in s.counts) (class_at shape.class)
-      ++ drop (at (class_at shape.class) + width (class_at shape.class)) (take (e - s.at) (drop s.at f))) where
+      ≡ take (at (class_in shape.class)) (take (e - s.at) (drop s.at f))
+      ++ expected (counts_in s.counts) (class_in shape.class)
+      ++ drop (at (class_in shape.class) + width (class_in shape.class)) (take (e - s.at) (drop s.at f))) where
     next_here : e ≡ s.at + text_length (drop s.at f) + 2
     next_here = q ∙ ap (λ (n : ℕ). s.at + n + 2) size
 
@@ -139,11 +139,11 @@ module _ {f old out : Bytes} {s : Stand} (F : Filling f old out s) (here : s.at 
         let n : e - s.at ≡ text_length (drop s.at f) + 2 = omega (arith, next_here) in
         let whole = rw (n, line-here f s.at here F.fine) at w in
         whole
-        ∙ line-numbered (record_at f s.at) (class_at shape.class) (expected (counts_in s.counts) (class_at shape.class)) numbers_fit
+        ∙ line-numbered (record_at f s.at) (class_in shape.class) (expected (counts_in s.counts) (class_in shape.class)) numbers_fit
         ∙ rw class-here
 
     owed-on : (take s.at out ++ ys)
-        ++ unlines (number (count (counts_in s.counts) (class_at shape.class)) (map (held cwr22) (records_in (lines (drop e f)))))
+        ++ unlines (number (count (counts_in s.counts) (class_in shape.class)) (map (held cwr22) (records_in (lines (drop e f)))))
         ≡ numbered_file cwr22 f
     owed-on =
         rw (class-here, next_here)
@@ -155,7 +155,7 @@ module _ {f old out : Bytes} {s : Stand} (F : Filling f old out s) (here : s.at 
         → Filling f old (put_mid s.at (e - s.at) out ys) next
     filling-on g l next x =
         record {
-          bounded = bounded-on f s shape.length shape.class next F.bounded (rw placed (row-six (drop s.at f) row refl)) (ends refl) x;
+          bounded = bounded-on f s shape.length shape.class next F.bounded (ends refl) x;
           fine = rw (there, next_here) (fine-after f s.at here F.fine);
           all = rw (there, next_here) (all_after f s.at here F.fine F.all);
           same = length-written out ys s.at e inside fit l ∙ F.same;

@@ -5,9 +5,10 @@
 ghost use Rattle.std.specs.Prelude.{◌≡◌, ◌++◌, ◌+◌, ◌≤◌, length, take, drop};
 ghost use Rattle.format.specs.Table.{at, width};
 ghost use Rattle.format.specs.Cwr22.{cwr22};
-ghost use Rattle.format.specs.Checks.{class_at, expected};
+ghost use Rattle.format.specs.Checks.{expected};
 ghost use Rattle.format.specs.Numbering.{numbered_file};
 ghost use Rattle.answers.specs.Numbers.{answer_of};
+ghost use Rattle.kinds.specs.Rows.{class_in};
 ghost use Rattle.counts.specs.Counting.{counts_in, CanGrow};
 ghost use Rattle.numbering.specs.Outcome.{number_answer, number_buffer};
 ghost use Rattle.numbering.specs.Fill.{Sized};
@@ -17,11 +18,11 @@ use counts::Counts;
 use structure::Stand;
 
 // One line, with its CR LF: copied, and its numbers written over what stood there.
-fn number_line(line: &[u8], out: &mut [u8], class: u8, counts: Counts)
-    requires { (length out.old ≡ length line.now) × (CanGrow counts) × (at (class_at class) + width (class_at class) ≤ length line.now) }
-    ensures { out.new ≡ take (at (class_at class)) line.now
-        ++ expected (counts_in counts) (class_at class)
-        ++ drop (at (class_at class) + width (class_at class)) line.now }
+fn number_line(line: &[u8], out: &mut [u8], class: Class, counts: Counts)
+    requires { (length out.old ≡ length line.now) × (CanGrow counts) × (at (class_in class) + width (class_in class) ≤ length line.now) }
+    ensures { out.new ≡ take (at (class_in class)) line.now
+        ++ expected (counts_in counts) (class_in class)
+        ++ drop (at (class_in class) + width (class_in class)) line.now }
 {
     out.copy_from_slice(line);
     counts.put(class, out);

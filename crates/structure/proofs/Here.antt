@@ -14,12 +14,12 @@ use Rattle.format.specs.Bytes.{Bytes, begins_pair}
 use Rattle.format.specs.Table.{at, width, known}
 use Rattle.format.specs.Cwr22.{cwr22}
 use Rattle.format.specs.Lines.{Lines, good, bad, lines}
-use Rattle.format.specs.Checks.{check6, class_at, cls, typed, Along}
+use Rattle.format.specs.Checks.{check6, cls, typed, Along}
 use Rattle.format.specs.Numbering.{records_in}
 use Rattle.format.proofs.Lines.{onto}
 use Rattle.format.proofs.Logic.{is_true, left, right}
 use Rattle.format.proofs.Slots.{three}
-use Rattle.kinds.specs.Rows.{row_for}
+use Rattle.kinds.specs.Rows.{class_in, row_for}
 use Rattle.kinds.specs.declared.Row.{Row}
 use Rattle.format.proofs.Tests.{by_cases}
 use Rattle.lines.specs.Scan.{text_length}
@@ -106,11 +106,11 @@ module _ (f : Bytes) (i : ℕ) (here : i < length f) (fine : is_good (lines (dro
     row-size =
         let e = sym (row_typed (record_at f i) row its_own) ∙ is_true (typed cwr22 (record_at f i)) here-typed in
         sym (eqb-true (length (record_at f i)) row.length
-        ((and-eq-true_iff (not (eqb row.class 6)) (eqb (length (record_at f i)) row.length)).0 e).1)
+        ((and-eq-true_iff (known (class_in row.class)) (eqb (length (record_at f i)) row.length)).0 e).1)
         ∙ long f i here fine
 
-    pub row-numbers : at (class_at row.class) + width (class_at row.class) ≤ length (record_at f i)
+    pub row-numbers : at (class_in row.class) + width (class_in row.class) ≤ length (record_at f i)
     row-numbers = row_room (record_at f i) row its_own (is_true (typed cwr22 (record_at f i)) here-typed)
 
-    pub row_is : class_at row.class ≡ cls cwr22 (record_at f i)
+    pub row_is : class_in row.class ≡ cls cwr22 (record_at f i)
     row_is = row-class (record_at f i) row its_own

@@ -1,6 +1,5 @@
 pub mod Rest
 pub mod Rows
-pub mod Follow
 pub mod Faults
 pub mod Turns
 pub mod Here

@@ -9,13 +9,12 @@ use mathlib.Core.List.{List, [], ◌∷◌}
 use lib.ListN.{length, take, get_or}
 use lib.Dec.{T, leb, eqb, leb→le, eqb→eq}
 use Rattle.format.specs.Bytes.{Bytes, every}
-use Rattle.format.specs.Table.{Class, hdr, grh, head, detail, grt, trl, unknown, known, at, width}
+use Rattle.format.specs.Table.{known, at, width}
 use Rattle.format.specs.Cwr22.{cwr22, rows22}
 use Rattle.format.specs.Stages.{stages, spots, begins}
-use Rattle.format.specs.Checks.{code, class_at, cls, typed}
-use Rattle.format.proofs.Logic.{is_T, left, right}
-use Rattle.format.proofs.Tree.{class-code}
-use Rattle.kinds.specs.Rows.{kinds, row_for}
+use Rattle.format.specs.Checks.{cls, typed}
+use Rattle.format.proofs.Logic.{is_T, is_true, left, right}
+use Rattle.kinds.specs.Rows.{class_in, kinds, row_for}
 use Rattle.kinds.specs.declared.Row.{Row}
 use Rattle.structure.specs.Walk.{Roomy}
 use Rattle.kinds.proofs.Laws.{class-is, length-len}
@@ -23,18 +22,18 @@ use Rattle.kinds.proofs.Laws.{class-is, length-len}
 -- ---- each row of the table is roomy
 
 roomy : Row → Bool
-roomy r = leb r.class 5 && (leb 3 r.length && leb (at (class_at r.class) + width (class_at r.class)) r.length)
+roomy r = known (class_in r.class) && (leb 3 r.length && leb (at (class_in r.class) + width (class_in r.class)) r.length)
 
 roomy→Roomy : (r : Row) → T (roomy r) → Roomy r
 unfolding roomy
 roomy→Roomy r t =
-    let a = leb r.class 5 in
+    let a = known (class_in r.class) in
     let b = leb 3 r.length in
-    let c = leb (at (class_at r.class) + width (class_at r.class)) r.length in
+    let c = leb (at (class_in r.class) + width (class_in r.class)) r.length in
     record {
-      class = leb→le r.class 5 (left a (b && c) t);
+      class = is_true a (left a (b && c) t);
       type = leb→le 3 r.length (left b c (right a (b && c) t));
-      numbers = leb→le (at (class_at r.class) + width (class_at r.class)) r.length (right b c (right a (b && c) t));
+      numbers = leb→le (at (class_in r.class) + width (class_in r.class)) r.length (right b c (right a (b && c) t));
     }
 
 kinds-roomy : every roomy kinds ≡ true
@@ -59,43 +58,19 @@ module _ (l : List Row) (table : l ≡ kinds) (k : ℕ) (few : k < 38) where
 
 -- ---- the row of a record's type
 
-known-code : (c : Class) → known c ≡ not (eqb (code c) 6)
-known-code hdr = refl
-known-code grh = refl
-known-code head = refl
-known-code detail = refl
-known-code grt = refl
-known-code trl = refl
-known-code unknown = refl
-
-code-six : (c : Class) → code c ≤ 6
-code-six hdr = omega arith
-code-six grh = omega arith
-code-six head = omega arith
-code-six detail = omega arith
-code-six grt = omega arith
-code-six trl = omega arith
-code-six unknown = omega arith
-
 module _ (r : Bytes) (row : Row) (its : row ≡ row_for (take 3 r)) where
-  pub row-class : class_at row.class ≡ cls cwr22 r
-  row-class = ap (λ (x : Row). class_at x.class) its ∙ ap class_at (class-is r) ∙ class-code (cls cwr22 r)
-
-  pub row-code : row.class ≡ code (cls cwr22 r)
-  row-code = ap (λ (x : Row). x.class) its ∙ class-is r
+  pub row-class : class_in row.class ≡ cls cwr22 r
+  row-class = ap (λ (x : Row). class_in x.class) its ∙ class-is r
 
   row-length : row.length ≡ cwr22.len (take 3 r)
   row-length = ap (λ (x : Row). x.length) its ∙ length-len r
 
   -- right by 6: a known class, and the row's length
-  pub row_typed : typed cwr22 r ≡ (not (eqb row.class 6) && eqb (length r) row.length)
-  row_typed = rw (row-code, row-length, known-code (cls cwr22 r))
-
-  pub row-six : row.class ≤ 6
-  row-six = rw row-code (code-six (cls cwr22 r))
+  pub row_typed : typed cwr22 r ≡ (known (class_in row.class) && eqb (length r) row.length)
+  row_typed = rw (row-class, row-length)
 
   -- and then there is room for its numbers
-  pub row_room : typed cwr22 r ≡ true → at (class_at row.class) + width (class_at row.class) ≤ length r
+  pub row_room : typed cwr22 r ≡ true → at (class_in row.class) + width (class_in row.class) ≤ length r
   row_room e =
       let t = is_T (typed cwr22 r) e in
       let k = left (known (cls cwr22 r)) (eqb (length r) (cwr22.len (take 3 r))) t in

@@ -10,10 +10,11 @@ use borrow.Author.Tests.{eqb-true}
 use Rattle.format.specs.Bytes.{Bytes}
 use Rattle.format.specs.Cwr22.{cwr22}
 use Rattle.format.specs.Lines.{lines}
-use Rattle.format.specs.Checks.{class_at, typed}
+use Rattle.format.specs.Checks.{typed}
 use Rattle.format.specs.Structure.{Answer, refused}
 use Rattle.format.specs.Numbering.{records_in}
-use Rattle.kinds.specs.Rows.{row_for}
+use Rattle.format.specs.Table.{known}
+use Rattle.kinds.specs.Rows.{class_in, row_for}
 use Rattle.kinds.specs.declared.Row.{Row}
 use Rattle.lines.specs.Scan.{text_length}
 use Rattle.counts.specs.Counting.{counts_in}
@@ -22,7 +23,7 @@ use Rattle.structure.specs.Walk.{Bounded, Next, faults_of}
 use Rattle.structure.specs.declared.standing.Stand.{Stand}
 use Rattle.structure.specs.declared.FirstFaults.{FirstFaults}
 use Rattle.structure.proofs.Rest.{judged-turn, judged-type, judged-end}
-use Rattle.structure.proofs.Rows.{row-class, row_typed, row-six}
+use Rattle.structure.proofs.Rows.{row-class, row_typed}
 use Rattle.structure.proofs.Turns.{bounded-on}
 use Rattle.structure.proofs.Here.{record_at, fits, long, records-here, fine-after}
 
@@ -32,13 +33,13 @@ pub record Judging (f : Bytes) (asked version : Bool) (s : Stand) (m : FirstFaul
   pub bounded : Bounded f s
   pub fine : is_good (lines (drop s.at f)) ≡ true
   pub rest :
-      judged_from cwr22 asked version (faults_of m) (class_at s.class) (counts_in s.counts) (records_in (lines (drop s.at f))) ≡ answer
+      judged_from cwr22 asked version (faults_of m) (class_in s.class) (counts_in s.counts) (records_in (lines (drop s.at f))) ≡ answer
 
 module _ (f : Bytes) (asked version : Bool) (s : Stand) (m : FirstFaults) (answer : Answer) (J : Judging f asked version s m answer) where
-  pub judging-end : length f ≤ s.at → at_end cwr22 asked version (faults_of m) (class_at s.class) (counts_in s.counts) ≡ answer
+  pub judging-end : length f ≤ s.at → at_end cwr22 asked version (faults_of m) (class_in s.class) (counts_in s.counts) ≡ answer
   unfolding lines
   judging-end h =
-      sym (judged-end cwr22 asked version (faults_of m) (class_at s.class) (counts_in s.counts))
+      sym (judged-end cwr22 asked version (faults_of m) (class_in s.class) (counts_in s.counts))
       ∙ (rw (drop_of_length-le f h) at J.rest)
 
   module _ (here : s.at < length f) (e : ℕ) (ends : e ≡ s.at + text_length (drop s.at f))
@@ -53,37 +54,37 @@ module _ (f : Bytes) (asked version : Bool) (s : Stand) (m : FirstFaults) (answe
     others : List Bytes
     others = records_in (lines (drop (s.at + text_length (drop s.at f) + 2) f))
 
-    decides : judged_from cwr22 asked version (faults_of m) (class_at s.class) (counts_in s.counts) (r ∷ others) ≡ answer
+    decides : judged_from cwr22 asked version (faults_of m) (class_in s.class) (counts_in s.counts) (r ∷ others) ≡ answer
     unfolding others
     decides = rw cut (rw (records-here f s.at here J.fine) at J.rest)
 
-    module _ (shaped : Bool) (test : shaped ≡ (not (eqb row.class 6) && eqb (length r) row.length)) where
+    module _ (shaped : Bool) (test : shaped ≡ (known (class_in row.class) && eqb (length r) row.length)) where
       pub is-typed : typed cwr22 r ≡ shaped
       is-typed = row_typed r row its ∙ sym test
 
       pub judging-type : shaped ≡ false → refused 6 s.counts.records ≡ answer
       judging-type z =
-          sym (judged-type cwr22 asked version (faults_of m) (class_at s.class) (counts_in s.counts) r others (is-typed ∙ z)) ∙ decides
+          sym (judged-type cwr22 asked version (faults_of m) (class_in s.class) (counts_in s.counts) r others (is-typed ∙ z)) ∙ decides
 
       module _ (z : shaped ≡ true) where
         size : row.length ≡ text_length (drop s.at f)
         size =
             sym (eqb-true (length r) row.length
-            ((and-eq-true_iff (not (eqb row.class 6)) (eqb (length r) row.length)).0 (sym test ∙ z)).1)
+            ((and-eq-true_iff (known (class_in row.class)) (eqb (length r) row.length)).0 (sym test ∙ z)).1)
             ∙ ap length cut
             ∙ long f s.at here J.fine
 
         pub judging-on : (next : Stand) → Next s row.length row.class next
-            → (more : FirstFaults) → faults_of more ≡ more_faults cwr22 asked (faults_of m) (class_at s.class) (counts_in s.counts) r
+            → (more : FirstFaults) → faults_of more ≡ more_faults cwr22 asked (faults_of m) (class_in s.class) (counts_in s.counts) r
             → Judging f asked version next more answer
         unfolding others
         judging-on next x more k =
             record {
-              bounded = bounded-on f s row.length row.class next J.bounded (row-six r row its) (rw size (fits f s.at here J.fine)) x;
+              bounded = bounded-on f s row.length row.class next J.bounded (rw size (fits f s.at here J.fine)) x;
               fine = rw behind (fine-after f s.at here J.fine);
               rest =
                   rw (k, x.class, x.counts, row-class r row its, behind)
-                  (sym (judged-turn cwr22 asked version (faults_of m) (class_at s.class) (counts_in s.counts) r others (is-typed ∙ z)) ∙ decides);
+                  (sym (judged-turn cwr22 asked version (faults_of m) (class_in s.class) (counts_in s.counts) r others (is-typed ∙ z)) ∙ decides);
             }
           where
             behind : next.at ≡ s.at + text_length (drop s.at f) + 2

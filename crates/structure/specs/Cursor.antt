@@ -5,10 +5,10 @@ use Rattle.format.specs.Bytes.{Bytes}
 use Rattle.format.specs.Table.{Class}
 use Rattle.format.specs.Cwr22.{cwr22}
 use Rattle.format.specs.Lines.{lines}
-use Rattle.format.specs.Checks.{check6, check7, cls, may_follow, class_at, Along, AlongFrom}
+use Rattle.format.specs.Checks.{check6, check7, cls, may_follow, Along, AlongFrom}
 use Rattle.format.specs.Numbering.{records_in}
 use Rattle.kinds.specs.declared.Row.{Row}
-use Rattle.kinds.specs.Rows.{row_for}
+use Rattle.kinds.specs.Rows.{class_in, row_for}
 use Rattle.structure.specs.Rest.{is_good}
 
 -- at byte i of the file, after a record of class c, the records rs begin
@@ -26,6 +26,6 @@ pub record First (f : Bytes) (i : ℕ) (c : Class) (row : Row) (r : Bytes) (rs :
   pub long : length r ≡ row.length
   pub three : 3 ≤ row.length
   pub own : row ≡ row_for (take 3 r)
-  pub class : cls cwr22 r ≡ class_at row.class
+  pub class : cls cwr22 r ≡ class_in row.class
   pub follows : may_follow c (cls cwr22 r) ≡ true
   pub next : Here f (i + row.length + 2) (cls cwr22 r) rs

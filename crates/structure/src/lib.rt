@@ -4,21 +4,21 @@
 
 ghost use Rattle.std.specs.Prelude.{◌≡◌, Bool, true, cond, not, ◌&&◌, ◌||◌, ◌+◌, ◌≤◌, eqb, length, take, drop};
 ghost use Rattle.format.specs.Bytes.{same_bytes};
-ghost use Rattle.format.specs.Table.{at, width};
+ghost use Rattle.format.specs.Table.{trl, known, at, width};
 ghost use Rattle.format.specs.Cwr22.{cwr22, version22};
 ghost use Rattle.format.specs.Lines.{lines};
-ghost use Rattle.format.specs.Checks.{class_at, may_follow, slot, expected, typed};
+ghost use Rattle.format.specs.Checks.{is, may_follow, closes, slot, expected, typed};
 ghost use Rattle.format.specs.Structure.{unless, most_bytes, structure};
 ghost use Rattle.format.specs.Numbering.{numbering, records_in};
 ghost use Rattle.answers.specs.Numbers.{answer_of};
-ghost use Rattle.kinds.specs.Rows.{row_for};
+ghost use Rattle.kinds.specs.Rows.{class_in, row_for};
 ghost use Rattle.counts.specs.Counting.{counts_in, Kept, CanGrow};
 ghost use Rattle.structure.specs.Rest.{faultless, judged_from, rest_from, more_faults, at_end, is_good};
 ghost use Rattle.structure.specs.Walk.{Roomy, Bounded, Stood, RightAt, Next, fault_in, faults_of};
 
 use answers::{Answer, MOST_RECORDS, Passed, Refusal};
 use counts::Counts;
-use kinds::{DETAIL, GRH, GRT, HDR, HEAD, Row, TRL, UNKNOWN};
+use kinds::{Class, Row};
 
 mod standing;
 
@@ -35,17 +35,16 @@ pub struct FirstFaults {
 const MOST_BYTES: usize = 16777216;
 
 // Whether a record of class c may stand after one of class p.
-fn follows(p: u8, c: u8) -> bool
-    requires { (p ≤ 6) × (c ≤ 6) }
-    ensures { result ≡ may_follow (class_at p) (class_at c) }
+fn follows(p: Class, c: Class) -> bool
+    ensures { result ≡ may_follow (class_in p) (class_in c) }
 {
     matches!(
         (p, c),
-        (UNKNOWN, HDR)
-            | (HDR, GRH)
-            | (GRH, HEAD)
-            | (HEAD | DETAIL, HEAD | DETAIL | GRT)
-            | (GRT, GRH | TRL)
+        (Class::Unknown, Class::Hdr)
+            | (Class::Hdr, Class::Grh)
+            | (Class::Grh, Class::Head)
+            | (Class::Head | Class::Detail, Class::Head | Class::Detail | Class::Grt)
+            | (Class::Grt, Class::Grh | Class::Trl)
     )
 }
 
@@ -68,7 +67,7 @@ fn version(record: &[u8]) -> bool
 
 impl Stand {
     // After one record more, of that length and class. (Not of a row: where one is handed on, the compiler keeps it in memory.)
-    pub fn after_record(self, length: u16, class: u8) -> Stand
+    pub fn after_record(self, length: u16, class: Class) -> Stand
         requires { self.at ≤ most_bytes }
         ensures { Next self length class result }
     {
@@ -81,9 +80,9 @@ impl Stand {
 }
 
 // Whether the record carries its numbers, where they are asked for.
-fn numbered(asked: bool, counts: Counts, class: u8, record: &[u8]) -> bool
-    requires { (CanGrow counts) × (at (class_at class) + width (class_at class) ≤ length «record».now) }
-    ensures { result ≡ (not asked || same_bytes (slot (class_at class) «record».now) (expected (counts_in counts) (class_at class))) }
+fn numbered(asked: bool, counts: Counts, class: Class, record: &[u8]) -> bool
+    requires { (CanGrow counts) × (at (class_in class) + width (class_in class) ≤ length «record».now) }
+    ensures { result ≡ (not asked || same_bytes (slot (class_in class) «record».now) (expected (counts_in counts) (class_in class))) }
 {
     !asked || counts.holds(class, record)
 }
@@ -138,22 +137,36 @@ fn unless(ok: bool, place: usize) -> Option<usize>
     if ok { None } else { Some(place) }
 }
 
+// Whether it is the class of some type.
+fn known(class: Class) -> bool
+    ensures { result ≡ known (class_in class) }
+{
+    !matches!(class, Class::Unknown)
+}
+
 // 6: a known type, and its length.
 fn shaped(row: Row, record: &[u8]) -> bool
-    ensures { result ≡ (not (eqb row.class 6) && eqb (length «record».now) row.length) }
+    ensures { result ≡ (known (class_in row.class) && eqb (length «record».now) row.length) }
 {
-    (row.class != UNKNOWN) & (record.len() == row.size())
+    known(row.class) & (record.len() == row.size())
+}
+
+// GRT and TRL close a group and the file.
+fn closes(class: Class) -> bool
+    ensures { result ≡ closes (class_in class) }
+{
+    matches!(class, Class::Grt | Class::Trl)
 }
 
 // The faults met with this record, which is of that row and right by 6.
 fn more(asked: bool, s: Stand, m: FirstFaults, record: &[u8], row: Row) -> FirstFaults
-    requires class_bound { (s.class ≤ 6) × (s.counts.records ≤ most_bytes) }
+    requires records_bound { s.counts.records ≤ most_bytes }
     requires row_value { (row ≡ row_for (take 3 «record».now)) × (typed cwr22 «record».now ≡ true) }
-    ensures { faults_of result ≡ more_faults cwr22 asked (faults_of m) (class_at s.class) (counts_in s.counts) «record».now }
+    ensures { faults_of result ≡ more_faults cwr22 asked (faults_of m) (class_in s.class) (counts_in s.counts) «record».now }
 {
     let place = s.counts.records as usize;
     let held = numbered(asked, s.counts, row.class, record);
-    let closes = (GRT == row.class) | (TRL == row.class);
+    let closes = closes(row.class);
     FirstFaults {
         seven: m.seven.or(unless(follows(s.class, row.class), place)),
         eight: m.eight.or(unless(closes | held, place)),
@@ -161,14 +174,19 @@ fn more(asked: bool, s: Stand, m: FirstFaults, record: &[u8], row: Row) -> First
     }
 }
 
+fn is_trailer(class: Class) -> bool
+    ensures { result ≡ is trl (class_in class) }
+{
+    matches!(class, Class::Trl)
+}
+
 // What is left to say after the last record.
-#[tactic(auto, using(crate::proofs::Faults::at_trl, crate::proofs::Faults::fault_first), unfolding(crate::specs::Rest::at_end))]
+#[tactic(auto, using(crate::proofs::Faults::fault_unless), unfolding(crate::specs::Rest::at_end))]
 fn ended(version: bool, s: Stand, m: FirstFaults) -> Answer
-    requires { s.class ≤ 6 }
-    ensures { (asked : Bool) → answer_of result ≡ at_end cwr22 asked version (faults_of m) (class_at s.class) (counts_in s.counts) }
+    ensures { (asked : Bool) → answer_of result ≡ at_end cwr22 asked version (faults_of m) (class_in s.class) (counts_in s.counts) }
 {
     let counts = s.counts;
-    let last = unless(TRL == s.class, counts.records as usize);
+    let last = unless(is_trailer(s.class), counts.records as usize);
     if let Some(place) = m.seven.or(last) {
         return Err(Refusal::Place(place));
     }
@@ -191,7 +209,7 @@ fn ended(version: bool, s: Stand, m: FirstFaults) -> Answer
 // 6 to 10, from here on, where the lines are good. The loop is over a place, as in `walk`.
 fn judge(file: &[u8], asked: bool, version: bool, start: Stand) -> Answer
     requires { (Bounded file.now start) × (length file.now ≤ most_bytes) × (is_good (lines (drop start.at file.now)) ≡ true) }
-    ensures { answer_of result ≡ judged_from cwr22 asked version faultless (class_at start.class) (counts_in start.counts)
+    ensures { answer_of result ≡ judged_from cwr22 asked version faultless (class_in start.class) (counts_in start.counts)
         (records_in (lines (drop start.at file.now))) }
 {
     let mut s = start;
@@ -216,7 +234,7 @@ fn judge(file: &[u8], asked: bool, version: bool, start: Stand) -> Answer
 // 4 to 10, from here on.
 fn scan(file: &[u8], asked: bool, version: bool, s: Stand) -> Answer
     requires { (Bounded file.now s) × (length file.now ≤ most_bytes) }
-    ensures { answer_of result ≡ rest_from cwr22 asked version (class_at s.class) (counts_in s.counts) (drop s.at file.now) }
+    ensures { answer_of result ≡ rest_from cwr22 asked version (class_in s.class) (counts_in s.counts) (drop s.at file.now) }
 {
     let n = lines::lines_from(file, s.at, s.counts.records as usize).map_err(Refusal::Line)?;
     if MOST_RECORDS < n {
