@@ -9,7 +9,7 @@ use Rattle.std.specs.Prelude.{None, is_some}
 use Rattle.format.specs.Bytes.{Bytes}
 use Rattle.format.specs.Table.{Class, head, trl}
 use Rattle.format.specs.Cwr22.{cwr22}
-use Rattle.format.specs.Checks.{is, cls, code, class_at, check7, AlongFrom}
+use Rattle.format.specs.Checks.{is, cls, check7, AlongFrom}
 use Rattle.format.specs.Structure.{most_records, first_record}
 use Rattle.format.specs.Tree.{is_head, transactions_in}
 use Rattle.format.proofs.Logic.{is_T}
@@ -18,8 +18,10 @@ use Rattle.format.proofs.Tree.{is→eq}
 use Rattle.rules.specs.Territories.{territories_in}
 use Rattle.rules.specs.WithTerritories.{Over, over_among}
 use Rattle.kinds.specs.declared.Row.{Row}
-use Rattle.kinds.specs.Rows.{row_for}
-use Rattle.kinds.proofs.Laws.{class-is}
+use Rattle.kinds.specs.Rows.{class_in, row_for}
+use Rattle.kinds.specs.declared.Class.{Class as CodeClass}
+use Rattle.kinds.specs.declared.Class.TheVariants.{Head, Trl}
+use Rattle.kinds.proofs.Laws.{in-class}
 use Rattle.structure.specs.Cursor.{Here, First}
 use Rattle.structure.proofs.Cursor.{first as record-here, three-left}
 use Rattle.transactions.specs.Walk.{rest_at, tail_of, Position}
@@ -123,22 +125,19 @@ module _ {f table : Bytes} {t : ℕ} {v₀ g₀ : Bytes} {from : Walk} {v g : By
     pub ends : w.at + kind.length + 2 ≤ length f
     ends = front.ends
 
-    classed : kind.class ≡ code (cls cwr22 r)
-    classed = ap (λ (k : Row). k.class) front.own ∙ class-is r
+    pub is-head : kind.class ≡ Head → cls cwr22 r ≡ head
+    is-head e = front.class ∙ ap class_in e
 
-    pub is-head : kind.class ≡ 2 → cls cwr22 r ≡ head
-    is-head e = front.class ∙ ap class_at e
-
-    no-class : (c : Class) → (kind.class ≡ code c → ⊥) → is c (cls cwr22 r) ≡ false
+    no-class : (c : CodeClass) → (kind.class ≡ c → ⊥) → is (class_in c) (cls cwr22 r) ≡ false
     no-class c n =
-        by_cases (is c (cls cwr22 r))
-        (λ e. absurd (n (classed ∙ ap code (sym (is→eq c (cls cwr22 r) (is_T (is c (cls cwr22 r)) e))))))
+        by_cases (is (class_in c) (cls cwr22 r))
+        (λ e. absurd (n (in-class kind.class c (sym front.class ∙ sym (is→eq (class_in c) (cls cwr22 r) (is_T (is (class_in c) (cls cwr22 r)) e))))))
         (λ e. e)
 
     -- TRL: nothing is owed any more
-    module _ (e : kind.class ≡ 5) where
+    module _ (e : kind.class ≡ Trl) where
       is-trailer : cls cwr22 r ≡ trl
-      is-trailer = front.class ∙ ap class_at e
+      is-trailer = front.class ∙ ap class_in e
 
       none_after : rs ≡ []
       none_after = last-record rs (subst (λ (c : Class). AlongFrom (check7 cwr22) c rs) is-trailer front.next.placed)
@@ -169,12 +168,12 @@ module _ {f table : Bytes} {t : ℕ} {v₀ g₀ : Bytes} {from : Walk} {v g : By
       )
 
     -- a control record
-    module _ (n : kind.class ≡ 5 → ⊥) (h : kind.class ≡ 2 → ⊥) (size : ℕ) (long : size ≡ kind.length) where
+    module _ (n : kind.class ≡ Trl → ⊥) (h : kind.class ≡ Head → ⊥) (size : ℕ) (long : size ≡ kind.length) where
       no-trailer : is trl (cls cwr22 r) ≡ false
-      no-trailer = no-class trl n
+      no-trailer = no-class Trl n
 
       not-head : is_head cwr22 r ≡ false
-      not-head = no-class head h
+      not-head = no-class Head h
 
       next : Walk
       next = past_control w size

@@ -16,6 +16,8 @@ use Rattle.rules.specs.Territories.{Territory}
 use Rattle.rules.specs.Collection.{is48}
 use Rattle.kinds.specs.declared.Row.{Row}
 use Rattle.kinds.specs.Rows.{row_for}
+use Rattle.kinds.specs.declared.Class.{Class}
+use Rattle.kinds.specs.declared.Class.TheVariants.{Detail}
 use Rattle.structure.specs.Cursor.{Here}
 use Rattle.structure.proofs.Cursor.{three-left}
 use Rattle.transactions.specs.Walk.{rest_at, tail_of, Position}
@@ -55,7 +57,7 @@ pub record Gone (f : Bytes) (m start first : ℕ) (T : List Territory) (old g : 
 abbrev pub Inv : (f : Bytes) (m start first : ℕ) (T : List Territory) (old g : Bytes) (d : Details) → Type 0
 Inv f m start first T old g d = (ds : List Bytes) × Gone f m start first T old g d ds
 
-pub begins : {f : Bytes} {start first : ℕ} {T : List Territory} {old : Bytes} {largest : Largest} {k : ℕ}
+pub begins : {f : Bytes} {start first : ℕ} {T : List Territory} {old : Bytes} {largest : Largest} {k : Class}
     → Here f start head (rest_at f start) → Most [] largest
     → Inv f (first + length (rest_at f start)) start first T old old
     (record { at = start; index = first; class = k; tally = record { party = 0; wrong = false; largest = largest } })
@@ -114,7 +116,7 @@ module _ {f : Bytes} {m start first : ℕ} {T : List Territory} {old g : Bytes} 
 
   module _ {kind : Row} (its : kind ≡ row_for (take 3 (drop d.at f))) where
     -- a detail, and the walk stands after it
-    module _ (p : kind.class ≡ 3) (e : Details) (at : e.at ≡ d.at + kind.length + 2) (index : e.index ≡ d.index + 1) where
+    module _ (p : kind.class ≡ Detail) (e : Details) (at : e.at ≡ d.at + kind.length + 2) (index : e.index ≡ d.index + 1) where
       after-it : Position f m e.at e.index head rs
       after-it = rw (at, index) (step position refl (next_here here its p))
 
@@ -137,7 +139,7 @@ module _ {f : Bytes} {m start first : ℕ} {T : List Territory} {old g : Bytes} 
       fewer-left = omega (arith, ap length next, ap length left)
 
     -- no detail: all are done
-    module _ (n : kind.class ≡ 3 → ⊥) where
+    module _ (n : kind.class ≡ Detail → ⊥) where
       all-details : span (is_detail cwr22) (rest_at f start) ≡ ds
       all-details = going-all (span (is_detail cwr22)) f m start head gone.going (ap (span (is_detail cwr22)) left ∙ rw (no-detail here its n))
 

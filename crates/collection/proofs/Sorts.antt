@@ -9,25 +9,11 @@ use Rattle.format.specs.Bytes.{Bytes}
 use Rattle.format.proofs.Tests.{by_cases}
 use Rattle.rules.specs.Collection.{is_party, is_claim}
 use Rattle.kinds.specs.declared.Row.{Row}
-use Rattle.kinds.specs.Rows.{row_for}
+use Rattle.kinds.specs.declared.Sort.TheVariants.{PublishersClaim}
+use Rattle.kinds.specs.Rows.{row_for, same_sort, of_party, of_claim}
+use Rattle.kinds.proofs.Laws.{not-party, not-claim}
 use Rattle.edits.proofs.Sorts.{sort-publisher, sort-writer, sort-publishers-claim, sort-writers-claim, publishers-claim-long, writers-claim-long}
 use Rattle.parties.specs.Records.{ClaimRecord}
-
-abbrev of_party : ℕ → Bool
-of_party sort = eqb sort 2 || eqb sort 3
-
-abbrev of_claim : ℕ → Bool
-of_claim sort = eqb sort 10 || eqb sort 11
-
--- a number is one of two
-one_of : {P : Type 0} (n a b : ℕ) → (eqb n a || eqb n b) ≡ true → (n ≡ a → P) → (n ≡ b → P) → P
-one_of n a b e f g = by_cases (eqb n a) (λ t. f (eqb-true n a t)) (λ t. g (eqb-true n b (rw t at e)))
-
-not-party : (n : ℕ) → of_claim n ≡ true → of_party n ≡ false
-not-party n e = one_of n 10 11 e (λ z. rw z) (λ z. rw z)
-
-not-claim : (n : ℕ) → of_party n ≡ true → of_claim n ≡ false
-not-claim n e = one_of n 2 3 e (λ z. rw z) (λ z. rw z)
 
 module _ (row : Row) (r : Bytes) (its : row ≡ row_for (take 3 r)) where
   party-told : of_party row.sort ≡ is_party r
@@ -36,12 +22,12 @@ module _ (row : Row) (r : Bytes) (its : row ≡ row_for (take 3 r)) where
   claim-told : of_claim row.sort ≡ is_claim r
   claim-told = rw (sort-publishers-claim row r its, sort-writers-claim row r its)
 
-  pub claim-here : length r ≡ row.length → of_claim row.sort ≡ true → ClaimRecord (eqb row.sort 10) r
+  pub claim-here : length r ≡ row.length → of_claim row.sort ≡ true → ClaimRecord (same_sort row.sort PublishersClaim) r
   claim-here long e = (sym (sort-publishers-claim row r its), sym claim-told ∙ e, sized)
     where
-      sized : length r ≡ cond (eqb row.sort 10) 58 52
+      sized : length r ≡ cond (same_sort row.sort PublishersClaim) 58 52
       sized =
-          by_cases (eqb row.sort 10)
+          by_cases (same_sort row.sort PublishersClaim)
           (λ t. rw t (publishers-claim-long row r its long (sym (sort-publishers-claim row r its) ∙ t)))
           (λ t. rw t (writers-claim-long row r its long (sym (sort-writers-claim row r its) ∙ rw t at e)))
 

@@ -5,7 +5,8 @@ use Rattle.std.proofs.Math.Option.{none}
 use Rattle.format.specs.Bytes.{Bytes}
 use Rattle.format.specs.Table.{Class, head, trl}
 use Rattle.format.specs.Cwr22.{cwr22}
-use Rattle.format.specs.Checks.{is, cls, class_at}
+use Rattle.format.specs.Checks.{is, cls}
+use Rattle.kinds.specs.Rows.{class_in}
 use Rattle.format.specs.Structure.{most_bytes, most_records, first_record}
 use Rattle.format.specs.Tree.{span, after, is_detail, transactions_in}
 use Rattle.rules.specs.Values.{largest_tolerance}
@@ -35,7 +36,7 @@ pub record Known (territories : List Territory) (ds : List Bytes) (tally : Tally
 -- past the details at the front of the records rs, of a file of m records
 pub record PastDetails (f : Bytes) (m : ℕ) (territories : List Territory) (rs : List Bytes) (d : Details) : Type 0 where
   pub position : Position f m d.at d.index head (after (is_detail cwr22) rs)
-  pub class : class_at d.class ≡ cls cwr22 (first_record (after (is_detail cwr22) rs))
+  pub class : class_in d.class ≡ cls cwr22 (first_record (after (is_detail cwr22) rs))
   pub known : Known territories (span (is_detail cwr22) rs) d.tally
 
 -- ---- from transaction to transaction

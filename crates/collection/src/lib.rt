@@ -16,6 +16,7 @@ ghost use Rattle.rules.specs.WithTerritories.{Over as RulesOver};
 ghost use Rattle.claims.specs.Entries.{entry_of, over_in};
 ghost use Rattle.parties.specs.Ahead.{entries_at};
 ghost use Rattle.kinds.specs.Rows.{row_for};
+ghost use Rattle.kinds.specs.declared.Class.TheVariants.{Detail};
 ghost use Rattle.edits.specs.Kinds.{Stands};
 ghost use Rattle.structure.specs.Cursor.{Here};
 ghost use Rattle.transactions.specs.Walk.{rest_at};
@@ -24,7 +25,7 @@ ghost use Rattle.collection.specs.Walk.{Known, PastDetails, Lent, Standing, Owes
 
 use claims::Claim;
 use findings::TR;
-use kinds::{DETAIL, HEAD, PUBLISHER, PUBLISHERS_CLAIM, Row, TRL, WRITER, WRITERS_CLAIM};
+use kinds::{Class, Row, Sort};
 use parties::{Largest, Record};
 use values::Tolerance;
 
@@ -138,15 +139,14 @@ fn judge_detail(
     ensures findings_after { findings.new
         ≡ marked48 (territories_in places.entry.table.now) index («record».now ∷ []) findings.old }
 {
-    let sort = row.sort;
-    if (sort == PUBLISHERS_CLAIM) | (sort == WRITERS_CLAIM) {
+    if row.sort.is_claim() {
         let claim = Record {
             bytes: record,
-            publishers: sort == PUBLISHERS_CLAIM,
+            publishers: row.sort == Sort::PublishersClaim,
         };
         return judge_claim(claim, index, places, tally, findings);
     }
-    if (sort == PUBLISHER) | (sort == WRITER) {
+    if row.sort.is_party() {
         return Tally {
             party: tally.party + 1,
             ..tally
@@ -160,14 +160,14 @@ fn judge_detail(
 pub struct Details {
     pub at: usize,
     pub index: usize,
-    pub class: u8,
+    pub class: Class,
     pub tally: Tally,
 }
 
 // One detail on, whose row this is.
 fn pass_detail(file: &[u8], row: Row, d: Details, places: Places, findings: &mut [u8]) -> Details
     requires file_len_bound { (length file.now ≤ most_bytes) × Here file.now d.at head (rest_at file.now d.at)
-        × (row ≡ row_for (take 3 (drop d.at file.now))) × (row.class ≡ 3) × (d.index < most_records) }
+        × (row ≡ row_for (take 3 (drop d.at file.now))) × (row.class ≡ Detail) × (d.index < most_records) }
     requires room { 8 * (d.index + 1) ≤ length findings.old }
     requires known { (ds : List Bytes) × Known (territories_in places.table.now) ds d.tally × (length ds < most_records) }
     ensures at_value { (result.at ≡ d.at + row.length + 2) × (result.index ≡ d.index + 1) }
@@ -181,7 +181,7 @@ fn pass_detail(file: &[u8], row: Row, d: Details, places: Places, findings: &mut
     Details {
         at: end + 2,
         index: d.index + 1,
-        class: DETAIL,
+        class: Class::Detail,
         tally: after,
     }
 }
@@ -205,7 +205,7 @@ fn judge_details(
     let mut d = Details {
         at: start,
         index: first,
-        class: DETAIL,
+        class: Class::Detail,
         tally: Tally {
             party: 0,
             wrong: false,
@@ -215,7 +215,7 @@ fn judge_details(
     loop {
         let k = transactions::hint_at(file, d.at);
         let row = transactions::row_at(rows[k], file, d.at);
-        if row.class != DETAIL {
+        if row.class != Class::Detail {
             return Details {
                 class: row.class,
                 ..d
@@ -319,13 +319,13 @@ fn advance(
     loop {
         let k = transactions::hint_at(file, w.at);
         let row = transactions::row_at(rows[k], file, w.at);
-        if row.class == TRL {
+        if row.class == Class::Trl {
             return Sought {
                 walk: w,
                 doubt: None,
             };
         }
-        if row.class == HEAD {
+        if row.class == Class::Head {
             let s = judge_transaction(file, places, t, w, verdicts, findings);
             if s.doubt.is_some() {
                 return s;

@@ -20,7 +20,7 @@ ghost use Rattle.counting.specs.Levels.{transactions_among, MissingOn, CountedTr
 
 use figures::{Counters, Figures, Missing};
 use files::Next;
-use kinds::HEAD;
+use kinds::Class;
 use totals::Rights;
 use transactions::{Passed, Purpose};
 use values::Tolerance;
@@ -116,11 +116,11 @@ fn count_transactions(
     let mut p = Passed {
         at: start,
         index: first,
-        class: HEAD,
+        class: Class::Head,
         stray: false,
     };
     let mut m = missing;
-    while p.class == HEAD {
+    while p.class == Class::Head {
         let one = count_transaction(file, p.at, p.index, named, t, slots, counters);
         let q = one.passed;
         m = m.with(one.total);

@@ -8,14 +8,14 @@ use mathlib.Core.List.{List, ◌∷◌}
 use lib.Dec.{eqb}
 use lib.ListN.{length, take, drop}
 use Rattle.format.specs.Bytes.{Bytes}
-use Rattle.format.specs.Table.{Class, hdr, grh, head, detail, grt, trl, unknown}
+use Rattle.format.specs.Table.{Class, detail, unknown}
 use Rattle.format.specs.Cwr22.{cwr22}
-use Rattle.format.specs.Checks.{is, code, cls}
+use Rattle.format.specs.Checks.{is, cls}
 use Rattle.format.specs.Tree.{is_detail}
 use Rattle.rules.specs.Collection.{is_claim}
 use Rattle.rules.specs.WithTerritories.{crowded_from}
 use Rattle.kinds.specs.declared.Row.{Row}
-use Rattle.kinds.specs.Rows.{row_for}
+use Rattle.kinds.specs.Rows.{class_in, row_for, of_claim}
 use Rattle.kinds.proofs.Laws.{class-is}
 use Rattle.edits.proofs.Sorts.{sort-publishers-claim, sort-writers-claim}
 use Rattle.structure.specs.Cursor.{Here, First}
@@ -48,15 +48,6 @@ begins f room here = (
   },
   omega arith,
 )
-
-detail-code : (c : Class) → eqb (code c) 3 ≡ is detail c
-detail-code hdr = refl
-detail-code grh = refl
-detail-code head = refl
-detail-code detail = refl
-detail-code grt = refl
-detail-code trl = refl
-detail-code unknown = refl
 
 -- a count grows by one at most
 still-met : (b c : Bool) {n i : ℕ} → n ≤ i → cond b (cond c (n + 1) n) 0 ≤ i + 1
@@ -103,10 +94,10 @@ module _ {f : Bytes} {m room : ℕ} {w : Walk} (inv : Inv f m room w) where
       next : rest_at f (w.at + row.length + 2) ≡ rs
       next = front.next.left
 
-      detail-told : eqb row.class 3 ≡ is_detail cwr22 r
-      detail-told = ap (λ (q : Row). eqb q.class 3) front.own ∙ ap (λ n. eqb n 3) (class-is r) ∙ detail-code (cls cwr22 r)
+      detail-told : is detail (class_in row.class) ≡ is_detail cwr22 r
+      detail-told = ap (λ (q : Row). is detail (class_in q.class)) front.own ∙ ap (is detail) (class-is r)
 
-      claim-told : (eqb row.sort 10 || eqb row.sort 11) ≡ is_claim r
+      claim-told : (of_claim row.sort) ≡ is_claim r
       claim-told = rw (sort-publishers-claim row r front.own, sort-writers-claim row r front.own)
 
       after-it : Decides f m room (passed row w)
@@ -114,7 +105,7 @@ module _ {f : Bytes} {m room : ℕ} {w : Walk} (inv : Inv f m room w) where
       after-it = record {
         class = cls cwr22 r;
         position = record { here = rw next front.next; left = omega (arith, ap length next, ap length left, stands.left) };
-        met = still-met (eqb row.class 3) (eqb row.sort 10 || eqb row.sort 11) inv.0.met;
+        met = still-met (is detail (class_in row.class)) (of_claim row.sort) inv.0.met;
         rest =
             one_more room w.header w.claims w.index r rs inv.1 front.next.placed _ _ _ _ detail-told claim-told (omega arith) next
             ∙ ap (decided room w.header w.claims w.index) (sym left)

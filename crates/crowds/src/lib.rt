@@ -10,7 +10,7 @@ ghost use Rattle.structure.specs.Cursor.{Here};
 ghost use Rattle.transactions.specs.Walk.{rest_at};
 ghost use Rattle.crowds.specs.Crowded.{crowd_of, passed};
 
-use kinds::{DETAIL, PUBLISHERS_CLAIM, Row, WRITERS_CLAIM};
+use kinds::{Class, Row};
 
 // Before a record of that number, which begins at that byte; the number of the latest record that is no detail, and how many claims were met
 // since.
@@ -29,8 +29,8 @@ impl Walk {
         requires { (self.at + row.length + 2 ≤ most_bytes) × (self.index < most_records) × (self.claims ≤ self.index) }
         ensures { result ≡ passed row self }
     {
-        let detail = row.class == DETAIL;
-        let claim = (row.sort == PUBLISHERS_CLAIM) | (row.sort == WRITERS_CLAIM);
+        let detail = row.class == Class::Detail;
+        let claim = row.sort.is_claim();
         let claims = choice::pick(claim, self.claims + 1, self.claims);
         Walk {
             at: self.at + row.size() + 2,

@@ -9,7 +9,7 @@ use Rattle.format.specs.Bytes.{Bytes}
 use Rattle.format.specs.Doc.{Transaction}
 use Rattle.format.specs.Table.{grh, head}
 use Rattle.format.specs.Cwr22.{rows22, cwr22}
-use Rattle.format.specs.Checks.{is, cls, class_at}
+use Rattle.format.specs.Checks.{cls}
 use Rattle.format.specs.Structure.{first_record}
 use Rattle.format.specs.Tree.{after, is_head, is_detail, is_inside}
 use Rattle.format.proofs.Logic.{is_T}
@@ -18,6 +18,9 @@ use Rattle.format.proofs.Tree.{is→eq}
 use Rattle.format.proofs.Walks.{transaction-first, transactions-none, inside-after}
 use Rattle.rules.specs.Works.{is0}
 use Rattle.rules.proofs.Lists.{any_last}
+use Rattle.kinds.specs.Rows.{class_in}
+use Rattle.kinds.specs.declared.Class.TheVariants.{Head}
+use Rattle.kinds.proofs.Laws.{in-class}
 use Rattle.transactions.specs.declared.Passed.{Passed}
 use Rattle.transactions.specs.Walk.{rest_at, tail_of, front_of, Position, PastTransaction}
 use Rattle.transactions.proofs.Levels.{Going, going-none, going_on, going-all, first-left}
@@ -34,21 +37,11 @@ edge_of : (rs : List Bytes) → is_detail cwr22 (first_record (after (is_detail 
 edge_of [] = nothing-no-detail
 edge_of (r ∷ rs) = by_cases (is_detail cwr22 r) (λ e. rw e (edge_of rs)) (λ e. rw e e)
 
--- only 2 is the class of a header
-class-head : (n : ℕ) → class_at n ≡ head → n ≡ 2
-class-head zero e = absurd (false≢true (ap (is head) e))
-class-head (suc zero) e = absurd (false≢true (ap (is head) e))
-class-head (suc (suc zero)) e = refl
-class-head (suc (suc (suc zero))) e = absurd (false≢true (ap (is head) e))
-class-head (suc (suc (suc (suc zero)))) e = absurd (false≢true (ap (is head) e))
-class-head (suc (suc (suc (suc (suc zero))))) e = absurd (false≢true (ap (is head) e))
-class-head (suc (suc (suc (suc (suc (suc n)))))) e = absurd (false≢true (ap (is head) e))
-
 -- the walk has gone over the transactions xs; the claim says what was done with them
 pub record Among (named f : Bytes) (m start : ℕ) (claim : List Transaction → Type 0) (p : Passed) (xs : List Transaction) : Type 0 where
   pub going : Going transactions_of f m start head claim p.at p.index xs
   pub rest : after (is_inside cwr22) (rest_at f start) ≡ after (is_inside cwr22) (rest_at f p.at)
-  pub class : class_at p.class ≡ cls cwr22 (first_record (rest_at f p.at))
+  pub class : class_in p.class ≡ cls cwr22 (first_record (rest_at f p.at))
   pub edge : is_detail cwr22 (first_record (rest_at f p.at)) ≡ false
   pub stray : p.stray ≡ is_stray_among named xs
 
@@ -56,7 +49,7 @@ abbrev pub Inv : (named f : Bytes) (m start : ℕ) (claim : List Transaction →
 Inv named f m start claim p = (xs : List Transaction) × Among named f m start claim p xs
 
 pub begins : {named f : Bytes} {m start i : ℕ} {claim : List Transaction → Type 0} → Position f m start i grh (rest_at f start) → claim []
-    → Inv named f m start claim (record { at = start; index = i; class = 2; stray = false })
+    → Inv named f m start claim (record { at = start; index = i; class = Head; stray = false })
 begins {f = f} {m} {start} at-grh done =
     let k : cls cwr22 (first_record (rest_at f start)) ≡ head = head-after _ (follows grh refl (rest_at f start) at-grh.here.placed) in (
       [],
@@ -89,11 +82,11 @@ module _ {named f : Bytes} {m start : ℕ} {claim : List Transaction → Type 0}
   left : rest_at f p.at ≡ first_record (rest_at f p.at) ∷ tail_of (rest_at f p.at)
   left = first-left position.here refl
 
-  pub header-here : p.class ≡ 2 → cls cwr22 (first_record (rest_at f p.at)) ≡ head
-  header-here e = sym among.class ∙ ap class_at e
+  pub header-here : p.class ≡ Head → cls cwr22 (first_record (rest_at f p.at)) ≡ head
+  header-here e = sym among.class ∙ ap class_in e
 
   -- it is the first of those that are left
-  module _ (e : p.class ≡ 2) where
+  module _ (e : p.class ≡ Head) where
     is-head : is_head cwr22 (first_record rs) ≡ true
     is-head = rw (header-here e) refl
 
@@ -105,7 +98,7 @@ module _ {named f : Bytes} {m start : ℕ} {claim : List Transaction → Type 0}
     split-here = among.going.split ∙ ap (λ l. xs ++ l) first_of
 
   -- one transaction more
-  module _ (q : Passed) (e : p.class ≡ 2) (past : PastTransaction named f (p.index + length (rest_at f p.at)) (rest_at f p.at) q) where
+  module _ (q : Passed) (e : p.class ≡ Head) (past : PastTransaction named f (p.index + length (rest_at f p.at)) (rest_at f p.at) q) where
     after-it : Position f m q.at q.index head (after (is_detail cwr22) (tail_of rs))
     after-it = subst (λ (k : ℕ). Position f k q.at q.index head (after (is_detail cwr22) (tail_of rs))) position.left past.position
 
@@ -137,11 +130,11 @@ module _ {named f : Bytes} {m start : ℕ} {claim : List Transaction → Type 0}
     fewer-left = omega (arith, ap length next, ap length left, length-parted (is_detail cwr22) (tail_of rs))
 
   -- none is left
-  module _ (e : p.class ≡ 2 → ⊥) where
+  module _ (e : p.class ≡ Head → ⊥) where
     no-head : is_head cwr22 (first_record rs) ≡ false
     no-head =
         by_cases (is_head cwr22 (first_record rs))
-        (λ q. absurd (e (class-head p.class (among.class ∙ sym (is→eq head _ (is_T (is_head cwr22 (first_record rs)) q))))))
+        (λ q. absurd (e (in-class p.class Head (among.class ∙ sym (is→eq head _ (is_T (is_head cwr22 (first_record rs)) q))))))
         (λ q. q)
 
     outside : is_inside cwr22 (first_record rs) ≡ false

@@ -17,7 +17,7 @@ ghost use Rattle.files.specs.Levels.{transactions_of, group_of, PastTransactions
 ghost use Rattle.files.specs.Levels.{FilledTransactions, FilledGroup, FilledGroups, WrittenFile};
 
 use findings::GR;
-use kinds::HEAD;
+use kinds::Class;
 use transactions::Passed;
 use values::Tolerance;
 
@@ -61,10 +61,10 @@ fn judge_transactions(
     let mut p = Passed {
         at: start,
         index: first,
-        class: HEAD,
+        class: Class::Head,
         stray: false,
     };
-    while p.class == HEAD {
+    while p.class == Class::Head {
         let q = transactions::judge_transaction(
             file, p.at, p.index, named, t, slots, verdicts, findings,
         );

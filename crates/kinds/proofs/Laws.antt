@@ -14,12 +14,14 @@ use Rattle.format.specs.Table.{Class, hdr, grh, head, detail, grt, trl, unknown,
 use Rattle.format.specs.Cwr22.{rows22, cwr22}
 use Rattle.format.specs.Checks.{is, cls}
 use Rattle.format.specs.Stages.{stages, spots, begins}
-use Rattle.kinds.specs.Rows.{class_in, code_row, kinds, row_for, type_of, no_row, first_row, spots_of, types_of, sort_among, sorts, sort_of, place_of, same_sort}
+use Rattle.kinds.specs.Rows.{class_for, class_in, code_row, kinds, row_for, type_of, no_row, first_row, spots_of, types_of, sort_among, sorts, sort_of, place_of, same_sort, of_party, of_claim}
 use Rattle.kinds.specs.declared.Class.{Class as CodeClass}
 use Rattle.kinds.specs.declared.Sort.{Sort}
 use Rattle.kinds.specs.declared.Sort.TheVariants.{Nothing, Header, Publisher, Writer, Ewt, Ver, Per, Rec, Instrument, Misplaced, PublishersClaim, WritersClaim}
 use Rattle.kinds.specs.declared.Row.{Row}
+use Rattle.kinds.specs.contracts.Class as TheClass
 use Rattle.kinds.specs.contracts.Sort as TheSort
+use Rattle.kinds.specs.declared.Class.TheVariants.{Hdr, Grh, Head, Detail, Grt, Trl, Unknown}
 use denote.Enum.Bare.{sameb}
 use denote.Enum.Declared.{tag_of}
 use Rattle.format.proofs.Tests.{by_cases, both, same→eq}
@@ -250,3 +252,38 @@ same-tag WritersClaim = refl
 
 pub same-is : (a b : Sort) → sameb TheSort.the_type a b ≡ same_sort a b
 same-is a b = cc (same-tag a, same-tag b)
+
+-- and of a class and a detail's
+pub same-detail : (c : CodeClass) → sameb TheClass.the_type c Detail ≡ is detail (class_in c)
+same-detail Hdr = refl
+same-detail Grh = refl
+same-detail Head = refl
+same-detail Detail = refl
+same-detail Grt = refl
+same-detail Trl = refl
+same-detail Unknown = refl
+
+-- classes of the code that stand for one class are one
+for-in : (c : CodeClass) → class_for (class_in c) ≡ c
+for-in Hdr = refl
+for-in Grh = refl
+for-in Head = refl
+for-in Detail = refl
+for-in Grt = refl
+for-in Trl = refl
+for-in Unknown = refl
+
+pub in-class : (a b : CodeClass) → class_in a ≡ class_in b → a ≡ b
+in-class a b e = sym (for-in a) ∙ ap class_for e ∙ for-in b
+
+-- ---- a claim is no party
+
+-- a sort is one of two
+one_of : {P : Type 0} (s a b : Sort) → (same_sort s a || same_sort s b) ≡ true → (s ≡ a → P) → (s ≡ b → P) → P
+one_of s a b e f g = by_cases (same_sort s a) (λ t. f (same-sort→eq s a t)) (λ t. g (same-sort→eq s b (rw t at e)))
+
+pub not-party : (s : Sort) → of_claim s ≡ true → of_party s ≡ false
+not-party s e = one_of s PublishersClaim WritersClaim e (λ z. rw z) (λ z. rw z)
+
+pub not-claim : (s : Sort) → of_party s ≡ true → of_claim s ≡ false
+not-claim s e = one_of s Publisher Writer e (λ z. rw z) (λ z. rw z)

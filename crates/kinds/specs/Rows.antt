@@ -1,5 +1,5 @@
 -- Internal: the code's table of record types, made of the format's rows and stages, so that no type is written down a second time.
-use Rattle.std.specs.Prelude.{ℕ, Bool, false, cond, List, [], ◌∷◌, map, eqb, ltb, get_or}
+use Rattle.std.specs.Prelude.{ℕ, Bool, false, ◌||◌, cond, List, [], ◌∷◌, map, eqb, ltb, get_or}
 use Rattle.format.specs.Ascii.{ascii}
 use Rattle.format.specs.Bytes.{Bytes, same_bytes, among}
 use Rattle.format.specs.Table.{Class as FormatClass, hdr, grh, head, detail, grt, trl, unknown, Row as FormatRow, row, row_of}
@@ -81,6 +81,13 @@ place_of WritersClaim = 11
 
 abbrev pub same_sort : Sort → Sort → Bool
 same_sort a b = eqb (place_of a) (place_of b)
+
+-- a party of its transaction begins with a record of the sort; and its records are claims
+abbrev pub of_party : Sort → Bool
+of_party s = same_sort s Publisher || same_sort s Writer
+
+abbrev pub of_claim : Sort → Bool
+of_claim s = same_sort s PublishersClaim || same_sort s WritersClaim
 
 -- one rank serves for all spots of a type: no type has spots of two ranks
 abbrev pub code_row : FormatRow → Row

@@ -4,7 +4,7 @@
 
 ghost use Rattle.std.specs.Prelude.{◌≡◌, true, [], ◌∷◌, ◌<◌, ◌≤◌, length, take};
 ghost use Rattle.format.specs.Bytes.{Bytes, same_bytes};
-ghost use Rattle.kinds.specs.Rows.{no_row, kinds, shape_of, type_of, first_row, row_for};
+ghost use Rattle.kinds.specs.Rows.{no_row, kinds, shape_of, type_of, first_row, row_for, of_party, of_claim};
 
 // A record type.
 #[derive(Clone, Copy)]
@@ -94,6 +94,22 @@ pub enum Sort {
     PublishersClaim,
     // SWT, OWT.
     WritersClaim,
+}
+
+impl Sort {
+    // Whether a party of its transaction begins with a record of it.
+    pub fn is_party(self) -> bool
+        ensures { result ≡ of_party self }
+    {
+        matches!(self, Sort::Publisher | Sort::Writer)
+    }
+
+    // Whether its records are claims.
+    pub fn is_claim(self) -> bool
+        ensures { result ≡ of_claim self }
+    {
+        matches!(self, Sort::PublishersClaim | Sort::WritersClaim)
+    }
 }
 
 // How many bytes a record has that opens or closes a file or a group, and a header.

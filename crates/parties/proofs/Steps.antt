@@ -16,7 +16,10 @@ use Rattle.format.proofs.Tests.{by_cases}
 use Rattle.rules.specs.Territories.{territories_in}
 use Rattle.rules.specs.Collection.{is_party, is_claim}
 use Rattle.kinds.specs.declared.Row.{Row}
-use Rattle.kinds.specs.Rows.{row_for}
+use Rattle.kinds.specs.declared.Class.TheVariants.{Detail}
+use Rattle.kinds.specs.declared.Sort.TheVariants.{PublishersClaim}
+use Rattle.kinds.specs.Rows.{row_for, same_sort, of_party, of_claim}
+use Rattle.kinds.proofs.Laws.{not-party}
 use Rattle.structure.specs.Cursor.{Here}
 use Rattle.structure.proofs.Cursor.{three-left}
 use Rattle.edits.proofs.Sorts.{sort-publisher, sort-writer, sort-publishers-claim, sort-writers-claim, publishers-claim-long, writers-claim-long}
@@ -28,11 +31,6 @@ use Rattle.claims.specs.Entries.{entry_of, entries_from}
 use Rattle.parties.specs.declared.Next.{Next}
 use Rattle.parties.specs.Records.{ClaimRecord}
 use Rattle.parties.specs.Ahead.{entries_at, Within, Found}
-
--- a claim's sort is no party's
-no-party : (sort : ℕ) → (eqb sort 10 || eqb sort 11) ≡ true → (eqb sort 2 || eqb sort 3) ≡ false
-no-party sort e =
-    by_cases (eqb sort 10) (λ y. rw (eqb-true sort 10 y)) (λ n. let eleven : eqb sort 11 ≡ true = rw n at e in rw (eqb-true sort 11 eleven))
 
 -- from where as much is left, the next claim is the same
 pub found-from : {f table : Bytes} {at party here parties : ℕ} {s : Next} → entries_at f table at party ≡ entries_at f table here parties
@@ -52,26 +50,26 @@ module _ {f table : Bytes} {at party : ℕ} (w : Within f table at party) where
 
     -- ---- what the row's sort tells
 
-    is-claim : (eqb kind.sort 10 || eqb kind.sort 11) ≡ is_claim r
+    is-claim : of_claim kind.sort ≡ is_claim r
     is-claim = rw (sort-publishers-claim kind r own, sort-writers-claim kind r own)
 
-    is-party : (eqb kind.sort 2 || eqb kind.sort 3) ≡ is_party r
+    is-party : of_party kind.sort ≡ is_party r
     is-party = rw (sort-publisher kind r own, sort-writer kind r own)
 
-    pub claim-record : (eqb kind.sort 10 || eqb kind.sort 11) ≡ true → ClaimRecord (eqb kind.sort 10) r
+    pub claim-record : of_claim kind.sort ≡ true → ClaimRecord (same_sort kind.sort PublishersClaim) r
     claim-record e =
         let publishers = sort-publishers-claim kind r own in
         let long = (front w.here its).long in (
           sym publishers,
           sym is-claim ∙ e,
-          by_cases (eqb kind.sort 10)
+          by_cases (same_sort kind.sort PublishersClaim)
               (λ y. rw y (publishers-claim-long kind r own long (sym publishers ∙ y)))
               (λ n. rw n (writers-claim-long kind r own long (sym (sort-writers-claim kind r own) ∙ (rw n at e)))),
         )
 
     -- ---- no detail
 
-    pub ended : (kind.class ≡ 3 → ⊥) → entries_at f table at party ≡ []
+    pub ended : (kind.class ≡ Detail → ⊥) → entries_at f table at party ≡ []
     unfolding entries_at
     ended n =
         ap (λ (rs : List Bytes). entries_from (territories_in table) party (span (is_detail cwr22) rs)) (first-left w.here refl)
@@ -79,7 +77,7 @@ module _ {f table : Bytes} {at party : ℕ} (w : Within f table at party) where
 
     -- ---- a detail, and the place after it
 
-    module _ (p : kind.class ≡ 3) (next : ℕ) (is-next : next ≡ at + kind.length + 2) where
+    module _ (p : kind.class ≡ Detail) (next : ℕ) (is-next : next ≡ at + kind.length + 2) where
       here-next : Here f next head (tail_of (rest_at f at))
       here-next = rw is-next (next_here w.here its p)
 
@@ -102,12 +100,12 @@ module _ {f table : Bytes} {at party : ℕ} (w : Within f table at party) where
           }
 
       -- a claim: its entry is the first
-      module _ (e : (eqb kind.sort 10 || eqb kind.sort 11) ≡ true) where
+      module _ (e : of_claim kind.sort ≡ true) where
         entries-claim : entries_at f table at party ≡ entry_of (territories_in table) party r ∷ entries_at f table next party
         unfolding entries_at
         entries-claim =
             ap (entries_from (territories_in table) party) details
-            ∙ rw (sym is-party ∙ no-party kind.sort e, sym is-claim ∙ e)
+            ∙ rw (sym is-party ∙ not-party kind.sort e, sym is-claim ∙ e)
 
         pub found-claim : (claim : Claim) → claim ≡ entry_of (territories_in table) party r
             → Found f table at party (record { at = next; party = party; claim = claim })
@@ -117,8 +115,8 @@ module _ {f table : Bytes} {at party : ℕ} (w : Within f table at party) where
       rest-after n = entries_from (territories_in table) n (span (is_detail cwr22) (rest_at f next))
 
       -- none: the rest has all of them
-      pub entries-passed : (n : ℕ) → n ≡ party + cond (eqb kind.sort 2 || eqb kind.sort 3) 1 0
-          → (eqb kind.sort 10 || eqb kind.sort 11) ≡ false → entries_at f table at party ≡ entries_at f table next n
+      pub entries-passed : (n : ℕ) → n ≡ party + cond of_party kind.sort 1 0
+          → of_claim kind.sort ≡ false → entries_at f table at party ≡ entries_at f table next n
       unfolding entries_at
       entries-passed n m e =
           ap (entries_from (territories_in table) party) details

@@ -7,7 +7,8 @@ use Rattle.format.specs.Structure.{most_bytes, most_records}
 use Rattle.format.specs.Tree.{span, is_detail}
 use Rattle.rules.specs.Territories.{territories_in, right_territories}
 use Rattle.kinds.specs.declared.Row.{Row}
-use Rattle.kinds.specs.Rows.{row_for}
+use Rattle.kinds.specs.declared.Class.TheVariants.{Detail}
+use Rattle.kinds.specs.Rows.{row_for, of_claim}
 use Rattle.claims.specs.declared.Claim.{Claim}
 use Rattle.claims.specs.Entries.{entries_from}
 use Rattle.structure.specs.Cursor.{Here}
@@ -27,7 +28,7 @@ pub record Within (f table : Bytes) (at party : ℕ) : Type 0 where
 
 -- a row is that of a type, and of a claim
 abbrev pub ClaimRow : Row → Bytes → Type 0
-ClaimRow row type = (row ≡ row_for type) × (row.class ≡ 3) × ((eqb row.sort 10 || eqb row.sort 11) ≡ true)
+ClaimRow row type = (row ≡ row_for type) × (row.class ≡ Detail) × (of_claim row.sort ≡ true)
 
 -- from there, a claim is the next, and the walk stands there after it
 pub record Found (f table : Bytes) (at party : ℕ) (s : Next) : Type 0 where

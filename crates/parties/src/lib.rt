@@ -13,12 +13,13 @@ ghost use Rattle.claims.specs.Work.{of_right};
 ghost use Rattle.territories.specs.Positions.{place_of};
 ghost use Rattle.totals.specs.Sums.{rights, AtMost};
 ghost use Rattle.rules.specs.Findings.{larger};
+ghost use Rattle.kinds.specs.Rows.{of_party};
 ghost use Rattle.parties.specs.Records.{ClaimRecord, Reads};
 ghost use Rattle.parties.specs.Ahead.{Within, Found, Ahead, ClaimRow};
 ghost use Rattle.parties.specs.Most.{most_from, Most, Begun, Added};
 
 use claims::Claim;
-use kinds::{DETAIL, PUBLISHER, PUBLISHERS_CLAIM, Row, WRITER, WRITERS_CLAIM};
+use kinds::{Class, Row, Sort};
 use totals::Rights;
 use values::{Share, Tolerance};
 
@@ -185,10 +186,10 @@ pub struct Next {
 
 // How many parties begin with a record of that row: 1 with SPU, OPU, SWR and OWR.
 fn parties_in(row: Row) -> u32
-    ensures value { result ≡ cond (eqb row.sort 2 || eqb row.sort 3) 1 0 }
+    ensures value { result ≡ cond (of_party row.sort) 1 0 }
     ensures upper_bound { result ≤ 1 }
 {
-    u32::from((row.sort == PUBLISHER) | (row.sort == WRITER))
+    u32::from(row.sort.is_party())
 }
 
 // The claim that stands here, and whose row this is.
@@ -199,7 +200,7 @@ fn claim_at(file: &[u8], table: &[u8], at: usize, row: Row, party: u32) -> Next
     let end = at + row.size();
     let record = Record {
         bytes: &file[at..end],
-        publishers: row.sort == PUBLISHERS_CLAIM,
+        publishers: row.sort == Sort::PublishersClaim,
     };
     let place = territories::position(table, record.code());
     let claim = record.entry(place, territories::count(table), party);
@@ -221,10 +222,10 @@ pub fn next_claim(file: &[u8], table: &[u8], at: usize, party: u32) -> Option<Ne
     loop {
         let k = transactions::hint_at(file, here);
         let row = transactions::row_at(rows[k], file, here);
-        if row.class != DETAIL {
+        if row.class != Class::Detail {
             return None;
         }
-        if (row.sort == PUBLISHERS_CLAIM) | (row.sort == WRITERS_CLAIM) {
+        if row.sort.is_claim() {
             return Some(claim_at(file, table, here, row, parties));
         }
         parties += parties_in(row);

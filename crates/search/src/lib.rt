@@ -22,7 +22,7 @@ ghost use Rattle.search.specs.Levels.{sets_of, sets_of_group, first_grave, from,
 
 use figures::Counters;
 use findings::TR;
-use kinds::HEAD;
+use kinds::Class;
 use transactions::{Passed, Purpose};
 use values::Tolerance;
 
@@ -100,11 +100,11 @@ fn search_transactions(
     let mut p = Passed {
         at: start,
         index: first,
-        class: HEAD,
+        class: Class::Head,
         stray: false,
     };
     let mut k = number;
-    while p.class == HEAD {
+    while p.class == Class::Head {
         let Some(q) = search_transaction(file, p.at, p.index, named, t, slots) else {
             return Err(k);
         };

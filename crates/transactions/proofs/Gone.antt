@@ -13,6 +13,7 @@ use Rattle.format.specs.Tree.{span, after, is_detail}
 use Rattle.format.proofs.Tests.{by_cases}
 use Rattle.kinds.specs.declared.Row.{Row}
 use Rattle.kinds.specs.Rows.{row_for}
+use Rattle.kinds.specs.declared.Class.TheVariants.{Detail}
 use Rattle.structure.specs.Cursor.{Here}
 use Rattle.structure.proofs.Cursor.{three-left}
 use Rattle.chains.specs.declared.Chains.{Chains}
@@ -120,7 +121,7 @@ module _ {f : Bytes} {m start : ℕ} {claim : List Bytes → Type 0} {c : Chains
 
   module _ {kind : Row} (its : kind ≡ row_for (take 3 (drop w.at f))) where
     -- a detail, the first of those that are left
-    module _ (p : kind.class ≡ 3) where
+    module _ (p : kind.class ≡ Detail) where
       -- the walk stands after it, and knows it too
       module _ (v : Walk) (at : v.at ≡ w.at + kind.length + 2) (index : v.index ≡ w.index + 1) where
         after-it : Position f m v.at v.index head rs
@@ -146,7 +147,7 @@ module _ {f : Bytes} {m start : ℕ} {claim : List Bytes → Type 0} {c : Chains
         fewer-left = omega (arith, ap length next, ap length left)
 
     -- no detail: all are done
-    module _ (n : kind.class ≡ 3 → ⊥) where
+    module _ (n : kind.class ≡ Detail → ⊥) where
       all-details : span (is_detail cwr22) (rest_at f start) ≡ ds
       all-details = going-all (span (is_detail cwr22)) f m start head gone.going (ap (span (is_detail cwr22)) left ∙ rw (no-detail here its n))
 

@@ -8,15 +8,16 @@ use lib.ListN.{length, take, drop}
 use Rattle.format.specs.Bytes.{Bytes}
 use Rattle.format.specs.Table.{Class, head, detail}
 use Rattle.format.specs.Cwr22.{cwr22}
-use Rattle.format.specs.Checks.{cls, code, class_at}
+use Rattle.format.specs.Checks.{cls}
 use Rattle.format.specs.Structure.{first_record}
 use Rattle.format.specs.Tree.{span, is_detail}
 use Rattle.format.proofs.Logic.{is_T}
 use Rattle.format.proofs.Tests.{by_cases}
 use Rattle.format.proofs.Tree.{is→eq}
 use Rattle.kinds.specs.declared.Row.{Row}
-use Rattle.kinds.specs.Rows.{row_for}
-use Rattle.kinds.proofs.Laws.{class-is}
+use Rattle.kinds.specs.Rows.{class_in, row_for}
+use Rattle.kinds.specs.declared.Class.TheVariants.{Detail}
+use Rattle.kinds.proofs.Laws.{in-class}
 use Rattle.structure.specs.Cursor.{Here, First}
 use Rattle.structure.proofs.Cursor.{first as record-here, placed-like}
 use Rattle.edits.specs.Kinds.{Stands}
@@ -34,9 +35,9 @@ module _ {f : Bytes} {at : ℕ} (here : Here f at head (rest_at f at)) {kind : R
   lent e q = let n : e - at ≡ kind.length = omega arith in rw n front.bytes
 
   -- a detail
-  module _ (p : kind.class ≡ 3) where
+  module _ (p : kind.class ≡ Detail) where
     pub is-detail : cls cwr22 (first_record (rest_at f at)) ≡ detail
-    is-detail = front.class ∙ ap class_at p
+    is-detail = front.class ∙ ap class_in p
 
     pub stands : Stands kind (first_record (rest_at f at))
     stands = ((front.own, is-detail), front.long)
@@ -54,10 +55,9 @@ module _ {f : Bytes} {at : ℕ} (here : Here f at head (rest_at f at)) {kind : R
         (subst (λ (k : Class). Here f (at + kind.length + 2) k (tail_of (rest_at f at))) is-detail front.next)
 
   -- no detail
-  pub no-detail : (kind.class ≡ 3 → ⊥) → is_detail cwr22 (first_record (rest_at f at)) ≡ false
+  pub no-detail : (kind.class ≡ Detail → ⊥) → is_detail cwr22 (first_record (rest_at f at)) ≡ false
   no-detail n =
       let r = first_record (rest_at f at) in
-      let placed = ap (λ (k : Row). k.class) front.own ∙ class-is r in
       by_cases (is_detail cwr22 r)
-      (λ e. absurd (n (placed ∙ ap code (sym (is→eq detail (cls cwr22 r) (is_T (is_detail cwr22 r) e))))))
+      (λ e. absurd (n (in-class kind.class Detail (sym front.class ∙ sym (is→eq detail (cls cwr22 r) (is_T (is_detail cwr22 r) e))))))
       (λ e. e)

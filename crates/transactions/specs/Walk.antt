@@ -4,7 +4,8 @@ use Rattle.format.specs.Bytes.{Bytes}
 use Rattle.format.specs.Doc.{Transaction}
 use Rattle.format.specs.Table.{Class, head}
 use Rattle.format.specs.Cwr22.{cwr22}
-use Rattle.format.specs.Checks.{cls, class_at}
+use Rattle.format.specs.Checks.{cls}
+use Rattle.kinds.specs.Rows.{class_in}
 use Rattle.format.specs.Lines.{lines}
 use Rattle.format.specs.Structure.{most_records, first_record}
 use Rattle.format.specs.Numbering.{records_in}
@@ -56,7 +57,7 @@ pub record Turned (tables : Tables) (ds : List Bytes) (r : Bytes) (s : Turn) : T
 -- past the details at the front of the records rs
 pub record PastDetails (f : Bytes) (m : ℕ) (rs : List Bytes) (d : Details) : Type 0 where
   pub position : Position f m d.walk.at d.walk.index head (after (is_detail cwr22) rs)
-  pub class : class_at d.class ≡ cls cwr22 (first_record (after (is_detail cwr22) rs))
+  pub class : class_in d.class ≡ cls cwr22 (first_record (after (is_detail cwr22) rs))
   pub known : Known d.walk.tally (span (is_detail cwr22) rs)
   pub linked : Linked d.links (span (is_detail cwr22) rs)
 
@@ -67,7 +68,7 @@ front_of rs = record { header = first_record rs; details = span (is_detail cwr22
 -- past that transaction, under a GRH that names a type
 pub record PastTransaction (named f : Bytes) (m : ℕ) (rs : List Bytes) (p : Passed) : Type 0 where
   pub position : Position f m p.at p.index head (after (is_detail cwr22) (tail_of rs))
-  pub class : class_at p.class ≡ cls cwr22 (first_record (after (is_detail cwr22) (tail_of rs)))
+  pub class : class_in p.class ≡ cls cwr22 (first_record (after (is_detail cwr22) (tail_of rs)))
   pub stray : p.stray ≡ is0 named (first_record rs)
 
 -- ---- what it has written

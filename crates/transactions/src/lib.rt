@@ -13,6 +13,7 @@ ghost use Rattle.rules.specs.Tables.{Tables};
 ghost use Rattle.rules.specs.Findings.{verdict, TR as Level-as-TR};
 ghost use Rattle.tables.specs.Index.{Indexed};
 ghost use Rattle.kinds.specs.Rows.{type_of, row_for};
+ghost use Rattle.kinds.specs.declared.Class.TheVariants.{Detail};
 ghost use Rattle.chains.specs.Tallies.{Tallied, Small};
 ghost use Rattle.totals.specs.Sums.{Below};
 ghost use Rattle.tally.specs.Known.{Known};
@@ -27,7 +28,7 @@ use edits::Found;
 use figures::Counters;
 use findings::TR;
 use headers::{Head, Links};
-use kinds::{DETAIL, Row};
+use kinds::{Class, Row};
 use tally::Tally;
 use values::Tolerance;
 
@@ -66,7 +67,7 @@ pub struct Turn {
 pub struct Details {
     pub walk: Walk,
     pub links: Links,
-    pub class: u8,
+    pub class: Class,
     pub rejects: bool,
 }
 
@@ -89,7 +90,7 @@ pub fn row_at(hinted: Row, file: &[u8], at: usize) -> Row
 // The detail before which the walk stands, and whose row this is.
 fn judge_detail(file: &[u8], row: Row, w: Walk, slots: &tables::Slots, chains: &mut Chains) -> Turn
     requires file_len_bound { (length file.now ≤ most_bytes) × Here file.now w.at head (rest_at file.now w.at)
-        × (row ≡ row_for (take 3 (drop w.at file.now))) × (row.class ≡ 3) × (w.index < most_records) }
+        × (row ≡ row_for (take 3 (drop w.at file.now))) × (row.class ≡ Detail) × (w.index < most_records) }
     requires below { Below (2 ^ 60) w.tally.totals × Small chains.old }
     ensures at_value { (result.walk.at ≡ w.at + row.length + 2) × (result.walk.index ≡ w.index + 1) }
     ensures turned { (tables : Tables) (ds : List Bytes) → Indexed tables slots.now → Known w.tally ds → Tallied chains.old ds
@@ -191,7 +192,7 @@ pub fn judge_details(
         let at = w.at;
         let k = hint_at(file, at);
         let row = row_at(rows[k], file, at);
-        if (row.class != DETAIL) | (searched & rejects) {
+        if (row.class != Class::Detail) | (searched & rejects) {
             return Details {
                 walk: w,
                 links: links_of(&chains),
@@ -246,7 +247,7 @@ pub fn judge_header(
 pub struct Passed {
     pub at: usize,
     pub index: usize,
-    pub class: u8,
+    pub class: Class,
     pub stray: bool,
 }
 

@@ -20,19 +20,19 @@ row_at-row-requires c =
     let listed = in_table table.result table.ensures hint.result hint.ensures in
     (three c.loop-rows.invariant, λ type e. hinted table.result table.ensures type hint.result listed _ e)
 
-pub shape_of-verdicts-then-row-eq-TRL : goal.shape_of-verdicts-then-row-eq-TRL
-shape_of-verdicts-then-row-eq-TRL c = c.loop-rows.invariant.long_v
+pub shape_of-verdicts-then-row-eq-Trl : goal.shape_of-verdicts-then-row-eq-Trl
+shape_of-verdicts-then-row-eq-Trl c = c.loop-rows.invariant.long_v
 
-pub shape_of-findings-then-row-eq-TRL : goal.shape_of-findings-then-row-eq-TRL
-shape_of-findings-then-row-eq-TRL c = c.loop-rows.invariant.long_g
+pub shape_of-findings-then-row-eq-Trl : goal.shape_of-findings-then-row-eq-Trl
+shape_of-findings-then-row-eq-Trl c = c.loop-rows.invariant.long_g
 
-pub returns-then-row-eq-TRL : goal.returns-then-row-eq-TRL
-returns-then-row-eq-TRL c = let told = at-end c.loop-rows.invariant c.row_at-row.ensures c.if-row-eq-TRL.true in record { by_index = told.0; result_bound = told.1 }
+pub returns-then-row-eq-Trl : goal.returns-then-row-eq-Trl
+returns-then-row-eq-Trl c = let told = at-end c.loop-rows.invariant c.row_at-row.ensures c.if-row-eq-Trl.true in record { by_index = told.0; result_bound = told.1 }
 
 pub judge_transaction-s-requires : goal.judge_transaction-s-requires
 judge_transaction-s-requires c =
     let u = c.loop-rows.invariant in
-    (u.m, u.lent, u.standing, is-head u c.row_at-row.ensures c.if-row-eq-HEAD.true)
+    (u.m, u.lent, u.standing, is-head u c.row_at-row.ensures c.if-row-eq-Head.true)
 
 pub shape_of-verdicts-then-is_some : goal.shape_of-verdicts-then-is_some
 shape_of-verdicts-then-is_some c =
@@ -47,11 +47,11 @@ returns-then-is_some c = let told = let u = c.loop-rows.invariant in
     in-doubt u c.judge_transaction-s.auto.verdicts c.judge_transaction-s.auto.findings
     c.judge_transaction-s.ensures.by_index c.judge_transaction-s.ensures.at_in_bounds (sym c.is_some.ensures ∙ c.if-is_some.true) in record { by_index = told.0; result_bound = told.1 }
 
-pub loop-rows-smaller-then-row-eq-HEAD : goal.loop-rows-smaller-then-row-eq-HEAD
-loop-rows-smaller-then-row-eq-HEAD c = c.judge_transaction-s.ensures.at_in_bounds
+pub loop-rows-smaller-then-row-eq-Head : goal.loop-rows-smaller-then-row-eq-Head
+loop-rows-smaller-then-row-eq-Head c = c.judge_transaction-s.ensures.at_in_bounds
 
-pub loop-rows-preserved-then-row-eq-HEAD : goal.loop-rows-preserved-then-row-eq-HEAD
-loop-rows-preserved-then-row-eq-HEAD c =
+pub loop-rows-preserved-then-row-eq-Head : goal.loop-rows-preserved-then-row-eq-Head
+loop-rows-preserved-then-row-eq-Head c =
     let u = c.loop-rows.invariant in
     past_one u c.judge_transaction-s.auto.verdicts c.judge_transaction-s.auto.findings
     c.judge_transaction-s.ensures.by_index c.judge_transaction-s.ensures.at_in_bounds (doubtless c.judge_transaction-s.result.doubt (sym c.is_some.ensures ∙ c.if-is_some.false))
@@ -65,10 +65,10 @@ pub loop-rows-smaller : goal.loop-rows-smaller
 loop-rows-smaller c =
     let u = c.loop-rows.invariant in
     rw c.past-w.ensures
-    (fewer-after u c.row_at-row.ensures c.if-row-eq-TRL.false c.if-row-eq-HEAD.false c.size.result c.size.ensures)
+    (fewer-after u c.row_at-row.ensures c.if-row-eq-Trl.false c.if-row-eq-Head.false c.size.result c.size.ensures)
 
 pub loop-rows-preserved : goal.loop-rows-preserved
 loop-rows-preserved c =
     let u = c.loop-rows.invariant in
     rw c.past-w.ensures
-    (past-control u c.row_at-row.ensures c.if-row-eq-TRL.false c.if-row-eq-HEAD.false c.size.result c.size.ensures)
+    (past-control u c.row_at-row.ensures c.if-row-eq-Trl.false c.if-row-eq-Head.false c.size.result c.size.ensures)

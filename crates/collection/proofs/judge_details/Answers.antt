@@ -18,25 +18,25 @@ row_at-row-requires c =
     let listed = in_table table.result table.ensures hint.result hint.ensures in
     (three c.loop-rows.invariant, λ type e. hinted table.result table.ensures type hint.result listed _ e)
 
-pub shape_of-findings-then-row-ne-DETAIL : goal.shape_of-findings-then-row-ne-DETAIL
-shape_of-findings-then-row-ne-DETAIL c = same-long c.loop-rows.invariant
+pub shape_of-findings-then-row-ne-Detail : goal.shape_of-findings-then-row-ne-Detail
+shape_of-findings-then-row-ne-Detail c = same-long c.loop-rows.invariant
 
-pub returns-then-row-ne-DETAIL : goal.returns-then-row-ne-DETAIL
-returns-then-row-ne-DETAIL c =
+pub returns-then-row-ne-Detail : goal.returns-then-row-ne-Detail
+returns-then-row-ne-Detail c =
     let inv = c.loop-rows.invariant in
     let its = c.row_at-row.ensures in
-    record { past_details = past inv its c.if-row-ne-DETAIL.true; findings_after = all-marked inv its c.if-row-ne-DETAIL.true }
+    record { past_details = past inv its c.if-row-ne-Detail.true; findings_after = all-marked inv its c.if-row-ne-Detail.true }
 
 pub pass_detail-d-requires : goal.pass_detail-d-requires
 pass_detail-d-requires c =
     let inv = c.loop-rows.invariant in
-    let (short, begun, few, room) = c.requires in record { file_len_bound = (short, here inv, c.row_at-row.ensures, c.if-row-ne-DETAIL.false, omega (arith, few, numbered inv)); room = omega (arith, room, numbered inv, same-long inv); known = (ds inv, known inv, fewer inv few) }
+    let (short, begun, few, room) = c.requires in record { file_len_bound = (short, here inv, c.row_at-row.ensures, c.if-row-ne-Detail.false, omega (arith, few, numbered inv)); room = omega (arith, room, numbered inv, same-long inv); known = (ds inv, known inv, fewer inv few) }
 
 pub loop-rows-smaller : goal.loop-rows-smaller
 loop-rows-smaller c =
     let (at, index) = c.pass_detail-d.ensures.at_value in
     fewer-left c.loop-rows.invariant c.row_at-row.ensures
-    c.if-row-ne-DETAIL.false c.pass_detail-d.result at index
+    c.if-row-ne-Detail.false c.pass_detail-d.result at index
 
 pub loop-rows-preserved : goal.loop-rows-preserved
 loop-rows-preserved c =
@@ -45,4 +45,4 @@ loop-rows-preserved c =
     let marks = c.pass_detail-d.ensures.findings_after in
     let inv = c.loop-rows.invariant in
     one_more inv c.row_at-row.ensures
-    c.if-row-ne-DETAIL.false c.pass_detail-d.result at index _ (knows (ds inv) (known inv)) marks
+    c.if-row-ne-Detail.false c.pass_detail-d.result at index _ (knows (ds inv) (known inv)) marks

@@ -1,5 +1,6 @@
 -- `details::judge` meets its contract. Assumes nothing.
 use borrow.Author.Rules.{rules}
+use Rattle.kinds.specs.declared.Sort.TheVariants.{Publisher, Writer}
 use Rattle.edits.proofs.Sorts.{publisher-here, writer-here, of-no-kind, sort-publisher, sort-writer}
 use Rattle.rules.proofs.Types.{writer-no-publisher}
 use Rattle.chains.proofs.Laws.{no-publisher}
@@ -24,8 +25,8 @@ returns-in_default c tables ds i k t =
     let row = c.args.row in
     let r = c.args.record.now in
     let own = c.requires.stands.0.0 in
-    let publisher = of-no-kind row r own (sort-publisher row r own) (search rules) in
-    let writer = of-no-kind row r own (sort-writer row r own) (search rules) in (
+    let publisher = of-no-kind row r own {s = Publisher} (sort-publisher row r own) (search rules) in
+    let writer = of-no-kind row r own {s = Writer} (sort-writer row r own) (search rules) in (
       record { judged = c.judge-found-in_default.ensures tables ds; known = c.with_other.ensures ds r k c.requires.stands.0 publisher writer },
       no-publisher _ ds r t publisher,
     )

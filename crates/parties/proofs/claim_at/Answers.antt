@@ -1,7 +1,7 @@
 -- `parties::claim_at` meets its contract: the bytes that are lent are the claim's. Assumes nothing.
 use Prim.Native.Nat.{◌+◌, ◌-◌}
 use native.Mathlib.Omega.{arith}
-use mathlib.Core.Path.{◌≡◌, ap, ◌∙◌}
+use mathlib.Core.Path.{◌≡◌, sym, ap, subst, ◌∙◌}
 use lib.ListN.{take, drop}
 use Rattle.format.specs.Bytes.{Bytes}
 use Rattle.format.specs.Structure.{first_record}
@@ -12,6 +12,9 @@ use Rattle.rules.proofs.Names.{right-table}
 use Rattle.territories.proofs.Laws.{place-within, length-codes}
 use Rattle.transactions.specs.Walk.{rest_at}
 use Rattle.transactions.proofs.Standing.{ends, lent}
+use Rattle.kinds.specs.declared.Sort.TheVariants.{PublishersClaim}
+use Rattle.kinds.proofs.Laws.{same-is}
+use Rattle.parties.specs.Records.{ClaimRecord}
 use Rattle.parties.proofs.Steps.{claim-record, found-claim}
 use Rattle.parties.proofs.claim_at.Goals as goal
 
@@ -28,7 +31,8 @@ invariant_of-record c =
     let record-lent : take (c.args.at + c.size.result - c.args.at) (drop c.args.at c.args.file.now) ≡ first_record (rest_at c.args.file.now c.args.at) =
     lent c.requires.0.here c.requires.1.0 _ end in
     let pre = c.requires in
-    record { right = rw record-lent (claim-record pre.0 pre.1.0 pre.1.2) }
+    let publishers = sym (c.eq.ensures ∙ same-is c.args.row.sort PublishersClaim) in
+    record { right = rw record-lent (subst (λ b. ClaimRecord b (first_record (rest_at c.args.file.now c.args.at))) publishers (claim-record pre.0 pre.1.0 pre.1.2)) }
 
 pub entry-claim-requires : goal.entry-claim-requires
 entry-claim-requires c =

@@ -22,15 +22,15 @@ row_at-row-requires c =
     let listed = in_table table.result table.ensures hint.result hint.ensures in
     (three c.loop-rows.invariant.0, λ type e. hinted table.result table.ensures type hint.result listed _ e)
 
-pub returns-then-row-ne-DETAIL : goal.returns-then-row-ne-DETAIL
-returns-then-row-ne-DETAIL c =
+pub returns-then-row-ne-Detail : goal.returns-then-row-ne-Detail
+returns-then-row-ne-Detail c =
     let (within, same) = c.loop-rows.invariant in
-    same ∙ ended within c.row_at-row.ensures c.if-row-ne-DETAIL.true
+    same ∙ ended within c.row_at-row.ensures c.if-row-ne-Detail.true
 
 -- ---- a claim
 pub claim_at-requires : goal.claim_at-requires
 claim_at-requires c =
-    (c.loop-rows.invariant.0, (c.row_at-row.ensures, c.if-row-ne-DETAIL.false, c.if-row.true))
+    (c.loop-rows.invariant.0, (c.row_at-row.ensures, c.if-row-ne-Detail.false, c.if-row.true))
 
 pub returns-then-row : goal.returns-then-row
 returns-then-row c = found-from c.loop-rows.invariant.1 c.claim_at.ensures
@@ -62,7 +62,7 @@ pub loop-rows-smaller : goal.loop-rows-smaller
 loop-rows-smaller c =
     let next : c.loop-rows.here + (c.size.result + 2) ≡ c.loop-rows.here + c.row_at-row.result.length + 2 =
     omega (arith, c.size.ensures) in
-    fewer c.loop-rows.invariant.0 c.row_at-row.ensures c.if-row-ne-DETAIL.false _ next
+    fewer c.loop-rows.invariant.0 c.row_at-row.ensures c.if-row-ne-Detail.false _ next
 
 pub loop-rows-preserved : goal.loop-rows-preserved
 loop-rows-preserved c =
@@ -70,7 +70,7 @@ loop-rows-preserved c =
     omega (arith, c.size.ensures) in
     let (within, same) = c.loop-rows.invariant in
     let parties = c.parties_in-parties.ensures in
-    let detail = c.if-row-ne-DETAIL.false in (
+    let detail = c.if-row-ne-Detail.false in (
       within-next within c.row_at-row.ensures detail _ next _ (omega (arith, parties.upper_bound)),
       same ∙ entries-passed within c.row_at-row.ensures detail _ next _ (rw parties.value) c.if-row.false,
     )
