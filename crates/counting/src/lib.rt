@@ -120,7 +120,7 @@ fn count_transactions(
         stray: false,
     };
     let mut m = missing;
-    while p.class == Class::Head {
+    while let Class::Head = p.class {
         let one = count_transaction(file, p.at, p.index, named, t, slots, counters);
         let q = one.passed;
         m = m.with(one.total);

@@ -64,7 +64,7 @@ fn judge_transactions(
         class: Class::Head,
         stray: false,
     };
-    while p.class == Class::Head {
+    while let Class::Head = p.class {
         let q = transactions::judge_transaction(
             file, p.at, p.index, named, t, slots, verdicts, findings,
         );

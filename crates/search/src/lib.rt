@@ -104,7 +104,7 @@ fn search_transactions(
         stray: false,
     };
     let mut k = number;
-    while p.class == Class::Head {
+    while let Class::Head = p.class {
         let Some(q) = search_transaction(file, p.at, p.index, named, t, slots) else {
             return Err(k);
         };

@@ -1,13 +1,22 @@
 -- The sets of a transaction's details, and where the walk over them ends. Assumes nothing.
-use Prim.Native.Nat.{ℕ, ◌≤◌}
+use Prim.Native.Nat.{◌≤◌}
 use mathlib.Core.Path.{◌≡◌, sym, ap, ◌∙◌}
 use mathlib.Core.Bool.{Bool, true, false, false≢true, not, ◌||◌}
 use mathlib.Core.List.{List, [], ◌∷◌, ◌++◌, append_assoc, append-nil}
-use lib.Dec.{eqb}
 use lib.ListN.{drop}
-use borrow.Author.Tests.{eqb-true}
+use lib.Dec.{eqb}
+use denote.Enum.Bare.{sameb}
 use Rattle.format.specs.Bytes.{Bytes}
+use Rattle.format.specs.Table.{detail}
+use Rattle.format.specs.Checks.{is}
+use Rattle.format.proofs.Logic.{is_T}
 use Rattle.format.proofs.Tests.{by_cases}
+use Rattle.format.proofs.Tree.{is→eq}
+use Rattle.kinds.specs.contracts.Class as TheClass
+use Rattle.kinds.specs.declared.Class.{Class}
+use Rattle.kinds.specs.declared.Class.TheVariants.{Detail}
+use Rattle.kinds.specs.Rows.{class_in}
+use Rattle.kinds.proofs.Laws.{in-class, same-detail}
 use Rattle.rules.specs.Tables.{Tables}
 use Rattle.rules.specs.Findings.{own_findings, worst_from, worst}
 use Rattle.rules.specs.Works.{details_from}
@@ -45,8 +54,13 @@ module _ (tables : Tables) (b : List Bytes) (r : Bytes) where
 -- ---- where the walk over details ends
 
 -- no detail stands here, or the walk stops
-pub none_left : (n : ℕ) (stop : Bool) → (not (eqb n 3) || stop) ≡ true → stop ≡ false → n ≡ 3 → ⊥
-none_left n stop e s is = false≢true (rw (s, is) at e)
+pub none_left : (k : Class) (differs stop : Bool) → differs ≡ not (sameb TheClass.the_type k Detail) → (differs || stop) ≡ true
+    → stop ≡ false → k ≡ Detail → ⊥
+none_left k differs stop d e s is = false≢true (rw (s, d, is) at e)
 
-pub is-detail : (n : ℕ) (stop : Bool) → (not (eqb n 3) || stop) ≡ false → n ≡ 3
-is-detail n stop e = by_cases (eqb n 3) (λ q. eqb-true n 3 q) (λ q. absurd (false≢true (sym (rw q at e))))
+pub is-detail : (k : Class) (differs stop : Bool) → differs ≡ not (sameb TheClass.the_type k Detail) → (differs || stop) ≡ false
+    → k ≡ Detail
+is-detail k differs stop d e =
+    by_cases (is detail (class_in k))
+    (λ q. in-class k Detail (sym (is→eq detail (class_in k) (is_T (is detail (class_in k)) q))))
+    (λ q. absurd (false≢true (sym (rw (d, same-detail k, q) at e))))

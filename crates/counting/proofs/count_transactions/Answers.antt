@@ -1,4 +1,5 @@
 -- `counting::count_transactions` meets its contract: each turn counts one transaction more. Assumes nothing.
+use borrow.Author.Rules.{rules}
 use Prim.Native.Nat.{suc, ◌+◌, ◌≤◌}
 use native.Mathlib.Omega.{arith}
 use mathlib.Core.Path.{◌≡◌, refl, ap, ◌∙◌}
@@ -27,7 +28,7 @@ count_transaction-one-requires c =
     begun-on ((done c.loop-p.invariant).1 some indexed) c.requires.file_len_bound.3 in
     let inv = c.loop-p.invariant in
     let here = position inv in
-    record { file_len_bound = (c.requires.file_len_bound.0, here.here, header-here inv c.loop-p-test.true, rw here.left c.requires.file_len_bound.2, begun); prepared = c.requires.prepared }
+    record { file_len_bound = (c.requires.file_len_bound.0, here.here, header-here inv c.in-Head.is, rw here.left c.requires.file_len_bound.2, begun); prepared = c.requires.prepared }
 
 pub with-m-requires : goal.with-m-requires
 with-m-requires c =
@@ -46,7 +47,7 @@ with-m-requires c =
 
 pub loop-p-smaller : goal.loop-p-smaller
 loop-p-smaller c =
-    fewer-left c.loop-p.invariant c.count_transaction-one.result.passed c.loop-p-test.true c.count_transaction-one.ensures.past_transaction
+    fewer-left c.loop-p.invariant c.count_transaction-one.result.passed c.in-Head.is c.count_transaction-one.ensures.past_transaction
 
 pub loop-p-preserved : goal.loop-p-preserved
 loop-p-preserved c =
@@ -60,7 +61,7 @@ loop-p-preserved c =
     let args = c.args in
     let counted = c.count_transaction-one.ensures in
     let x = front_of (rest_at args.file.now c.loop-p.p.at) in
-    one_more inv c.count_transaction-one.result.passed c.loop-p-test.true counted.past_transaction (
+    one_more inv c.count_transaction-one.result.passed c.in-Head.is counted.past_transaction (
       missing-then (done inv).0 (missing-one x ended counted.total_value.0 counted.total_value.1 with.ensures.value with.ensures.within),
       λ tables e. part-more (transaction_verdicts tables args.t args.named.now) (transaction_findings tables args.t args.named.now) (xs inv) x
           ((done inv).1 tables e) (counted.counted_transaction tables e),
@@ -69,5 +70,4 @@ loop-p-preserved c =
 pub returns : goal.returns
 returns c =
     let inv = c.loop-p.invariant in
-    let no_Header = c.loop-p-test.false in
-    record { past_transactions = past_all inv no_Header; missing_on = (all_done inv no_Header).0; counted_transactions = (all_done inv no_Header).1 }
+    record { past_transactions = past_all inv (search rules); missing_on = (all_done inv (search rules)).0; counted_transactions = (all_done inv (search rules)).1 }

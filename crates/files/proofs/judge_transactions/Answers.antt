@@ -1,4 +1,5 @@
 -- `files::judge_transactions` meets its contract. Assumes nothing.
+use borrow.Author.Rules.{rules}
 use Prim.Native.Nat.{◌+◌}
 use native.Mathlib.Omega.{arith}
 use mathlib.Core.Path.{refl}
@@ -23,16 +24,16 @@ judge_transaction-q-requires c =
     room-kept (done c.loop-p.invariant some.0 some.1) c.requires.file_len_bound.2 in
     let inv = c.loop-p.invariant in
     let here = position inv in
-    record { file_len_bound = (c.requires.file_len_bound.0, here.here, header-here inv c.loop-p-test.true, rw here.left room); prepared = c.requires.prepared }
+    record { file_len_bound = (c.requires.file_len_bound.0, here.here, header-here inv c.in-Head.is, rw here.left room); prepared = c.requires.prepared }
 
 pub loop-p-smaller : goal.loop-p-smaller
 loop-p-smaller c =
-    let is-header = c.loop-p-test.true in
+    let is-header = c.in-Head.is in
     fewer-left c.loop-p.invariant c.judge_transaction-q.result is-header c.judge_transaction-q.ensures.past_transaction
 
 pub loop-p-preserved : goal.loop-p-preserved
 loop-p-preserved c =
-    let is-header = c.loop-p-test.true in
+    let is-header = c.in-Head.is in
     let inv = c.loop-p.invariant in
     let args = c.args in
     one_more inv c.judge_transaction-q.result is-header c.judge_transaction-q.ensures.past_transaction
@@ -52,5 +53,4 @@ shape_of-findings c =
 pub returns : goal.returns
 returns c =
     let inv = c.loop-p.invariant in
-    let no_Header = c.loop-p-test.false in
-    record { past_transactions = past_all inv no_Header; filled_transactions = all_done inv no_Header }
+    record { past_transactions = past_all inv (search rules); filled_transactions = all_done inv (search rules) }

@@ -1,4 +1,5 @@
 -- `search::search_transactions` meets its contract: each turn searches one transaction more, and none before it was grave. Assumes nothing.
+use borrow.Author.Rules.{rules}
 use native.Mathlib.Omega.{arith}
 use mathlib.Core.Path.{◌≡◌, refl, ap}
 use mathlib.Core.Bool.{false}
@@ -22,17 +23,17 @@ pub search_transaction-requires : goal.search_transaction-requires
 search_transaction-requires c =
     let inv = c.loop-p.invariant.0 in
     let here = position inv in
-    record { file_len_bound = (c.requires.file_len_bound.0, here.here, header-here inv c.loop-p-test.true, rw here.left c.requires.file_len_bound.2); prepared = c.requires.prepared }
+    record { file_len_bound = (c.requires.file_len_bound.0, here.here, header-here inv c.in-Head.is, rw here.left c.requires.file_len_bound.2); prepared = c.requires.prepared }
 
-pub returns-in_default : goal.returns-in_default
-returns-in_default c =
+pub returns-in_default-search_transaction : goal.returns-in_default-search_transaction
+returns-in_default-search_transaction c =
     let args = c.args in
     let inv = c.loop-p.invariant.0 in
     let (counted, none_yet) = done inv in record {
       past_clean_group = tt;
       result_value = λ tables e. grave-here (transaction_findings tables args.t args.named.now) args.number (xs inv) counted (none_yet tables e) _ _
-          (split-here inv c.loop-p-test.true)
-          (c.in_default.ensures.result_value tables e);
+          (split-here inv c.in-Head.is)
+          (c.in_default-search_transaction.ensures.result_value tables e);
     }
 
 pub overflow_add-k : goal.overflow_add-k
@@ -43,14 +44,14 @@ pub loop-p-smaller : goal.loop-p-smaller
 loop-p-smaller c =
     let clean = c.in-Some.q in
     let past = c.in-Some.ensures.past_clean_transaction in
-    let fewer = fewer-left c.loop-p.invariant.0 clean c.loop-p-test.true past in
+    let fewer = fewer-left c.loop-p.invariant.0 clean c.in-Head.is past in
     fewer
 
 pub loop-p-preserved : goal.loop-p-preserved
 loop-p-preserved c =
     let clean = c.in-Some.q in
     let past = c.in-Some.ensures.past_clean_transaction in
-    let fewer = fewer-left c.loop-p.invariant.0 clean c.loop-p-test.true past in
+    let fewer = fewer-left c.loop-p.invariant.0 clean c.in-Head.is past in
     let args = c.args in
     let inv = c.loop-p.invariant.0 in
     let (counted, none_yet) = done inv in
@@ -60,7 +61,7 @@ loop-p-preserved c =
     let some = c.requires.prepared in
     let on : (tables : Tables) → (e : Indexed tables args.slots.now) → _ =
     λ tables e. one_on (transaction_findings tables args.t args.named.now) args.number (xs inv) counted (none_yet tables e) _ (not-grave tables e) in (
-      one_more inv clean c.loop-p-test.true past ((on some.0 some.1).0, λ tables e. (on tables e).1),
+      one_more inv clean c.in-Head.is past ((on some.0 some.1).0, λ tables e. (on tables e).1),
       omega (arith, fewer, c.loop-p.invariant.1, (position inv).left, past.position.left, ap length past.position.here.left),
     )
 
@@ -68,9 +69,8 @@ pub returns : goal.returns
 returns c =
     let args = c.args in
     let inv = c.loop-p.invariant.0 in
-    let no_Header = c.loop-p-test.false in
     let (counted, none_yet) = done inv in
     let some = c.requires.prepared in
     let all : (tables : Tables) → (e : Indexed tables args.slots.now) → _ =
     λ tables e. none_here (transaction_findings tables args.t args.named.now) args.number (xs inv) counted (none_yet tables e)
-    (all-gone inv no_Header) in record { past_clean_group = (past_all inv no_Header, (all some.0 some.1).0, c.loop-p.invariant.1); result_value = λ tables e. (all tables e).1 }
+    (all-gone inv (search rules)) in record { past_clean_group = (past_all inv (search rules), (all some.0 some.1).0, c.loop-p.invariant.1); result_value = λ tables e. (all tables e).1 }

@@ -36,33 +36,33 @@ row_at-row-requires c =
     let listed = in_table table.result table.ensures hint.result hint.ensures in
     (three c.loop-rejects.invariant, λ type e. hinted table.result table.ensures type hint.result listed _ e)
 
-pub shape_of-verdicts-then-row-searched : goal.shape_of-verdicts-then-row-searched
-shape_of-verdicts-then-row-searched c =
+pub shape_of-verdicts-then-ne-searched : goal.shape_of-verdicts-then-ne-searched
+shape_of-verdicts-then-ne-searched c =
     let some = c.requires.prepared in
     (same-lengths (done c.loop-rejects.invariant some.0 some.1)).0
 
-pub shape_of-findings-then-row-searched : goal.shape_of-findings-then-row-searched
-shape_of-findings-then-row-searched c =
+pub shape_of-findings-then-ne-searched : goal.shape_of-findings-then-ne-searched
+shape_of-findings-then-ne-searched c =
     let some = c.requires.prepared in
     (same-lengths (done c.loop-rejects.invariant some.0 some.1)).1
 
-pub returns-then-row-searched : goal.returns-then-row-searched
-returns-then-row-searched c =
+pub returns-then-ne-searched : goal.returns-then-ne-searched
+returns-then-ne-searched c =
     let inv = c.loop-rejects.invariant in
     let searched = c.is_search-searched.ensures in
-    let ended = rw searched at c.if-row-searched.true in
+    let ended = rw searched at c.if-ne-searched.true in
     let its = c.row_at-row.ensures in record {
-      past_details = λ e. past inv its (none_left _ _ ended e) c.links_of.result _ (c.links_of.ensures (ds inv) (tallied inv));
+      past_details = λ e. past inv its (none_left _ _ _ c.ne.ensures ended e) c.links_of.result _ (c.links_of.ensures (ds inv) (tallied inv));
       done_details = by_cases (is_search c.args.purpose && c.loop-rejects.rejects)
           (λ e tables indexed. rw (split-left inv) (done-early (done inv tables indexed) e _))
-          (λ e. all_done inv its (none_left _ _ ended e));
+          (λ e. all_done inv its (none_left _ _ _ c.ne.ensures ended e));
     }
 
 -- ---- a detail
 pub judge_detail-s-requires : goal.judge_detail-s-requires
 judge_detail-s-requires c =
     let inv = c.loop-rejects.invariant in
-    let few : length (rest_at c.args.file.now c.args.start) ≤ most_records = omega (arith, c.requires.file_len_bound.2) in record { file_len_bound = (c.requires.file_len_bound.0, here inv, c.row_at-row.ensures, is-detail _ _ c.if-row-searched.false, numbered inv c.requires.file_len_bound.2); below = (below inv few, small-chains inv few) }
+    let few : length (rest_at c.args.file.now c.args.start) ≤ most_records = omega (arith, c.requires.file_len_bound.2) in record { file_len_bound = (c.requires.file_len_bound.0, here inv, c.row_at-row.ensures, is-detail _ _ _ c.ne.ensures c.if-ne-searched.false, numbered inv c.requires.file_len_bound.2); below = (below inv few, small-chains inv few) }
 
 pub write-requires : goal.write-requires
 write-requires c =
@@ -81,7 +81,7 @@ tell-rejects-requires c =
 pub loop-rejects-smaller : goal.loop-rejects-smaller
 loop-rejects-smaller c =
     let (at, index) = c.judge_detail-s.ensures.at_value in
-    fewer-left c.loop-rejects.invariant c.row_at-row.ensures (is-detail _ _ c.if-row-searched.false)
+    fewer-left c.loop-rejects.invariant c.row_at-row.ensures (is-detail _ _ _ c.ne.ensures c.if-ne-searched.false)
     c.judge_detail-s.result.walk at index
 
 pub loop-rejects-preserved : goal.loop-rejects-preserved
@@ -90,7 +90,7 @@ loop-rejects-preserved c =
     let some = c.requires.prepared in
     let turned : (tables : Tables) → Indexed tables c.args.slots.now → _ = λ tables e. c.judge_detail-s.ensures.turned tables (ds inv) e (known inv) (tallied inv) in
     let (at, index) = c.judge_detail-s.ensures.at_value in
-    one_more inv c.row_at-row.ensures (is-detail _ _ c.if-row-searched.false)
+    one_more inv c.row_at-row.ensures (is-detail _ _ _ c.ne.ensures c.if-ne-searched.false)
     c.judge_detail-s.result.walk at index
     (turned some.0 some.1).0.known
     (turned some.0 some.1).1
