@@ -215,12 +215,12 @@ fn judge_details(
     loop {
         let k = transactions::hint_at(file, d.at);
         let row = transactions::row_at(rows[k], file, d.at);
-        if row.class != Class::Detail {
+        let Class::Detail = row.class else {
             return Details {
                 class: row.class,
                 ..d
             };
-        }
+        };
         d = pass_detail(file, row, d, places, findings);
     }
 }
@@ -319,20 +319,31 @@ fn advance(
     loop {
         let k = transactions::hint_at(file, w.at);
         let row = transactions::row_at(rows[k], file, w.at);
-        if row.class == Class::Trl {
-            return Sought {
-                walk: w,
-                doubt: None,
-            };
-        }
-        if row.class == Class::Head {
-            let s = judge_transaction(file, places, t, w, verdicts, findings);
-            if s.doubt.is_some() {
-                return s;
+        match row.class {
+            Class::Trl => {
+                return Sought {
+                    walk: w,
+                    doubt: None,
+                };
             }
-            w = s.walk;
-        } else {
-            w = w.past(row.size());
+            Class::Head => {
+                let s = judge_transaction(file, places, t, w, verdicts, findings);
+                if s.doubt.is_some() {
+                    return s;
+                }
+                w = s.walk;
+            }
+            _ => w = w.past(row.size()),
+        }
+            }
+            Class::Head => {
+                let s = judge_transaction(file, places, t, w, verdicts, findings);
+                if s.doubtful {
+                    return s;
+                }
+                w = s.walk;
+            }
+            _ => w = w.past(row.size()),
         }
     }
 }

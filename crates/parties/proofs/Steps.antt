@@ -115,7 +115,7 @@ module _ {f table : Bytes} {at party : ℕ} (w : Within f table at party) where
       rest-after n = entries_from (territories_in table) n (span (is_detail cwr22) (rest_at f next))
 
       -- none: the rest has all of them
-      pub entries-passed : (n : ℕ) → n ≡ party + cond of_party kind.sort 1 0
+      pub entries-passed : (n : ℕ) → n ≡ party + cond (of_party kind.sort) 1 0
           → of_claim kind.sort ≡ false → entries_at f table at party ≡ entries_at f table next n
       unfolding entries_at
       entries-passed n m e =

@@ -222,9 +222,9 @@ pub fn next_claim(file: &[u8], table: &[u8], at: usize, party: u32) -> Option<Ne
     loop {
         let k = transactions::hint_at(file, here);
         let row = transactions::row_at(rows[k], file, here);
-        if row.class != Class::Detail {
+        let Class::Detail = row.class else {
             return None;
-        }
+        };
         if row.sort.is_claim() {
             return Some(claim_at(file, table, here, row, parties));
         }
