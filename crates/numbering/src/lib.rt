@@ -15,6 +15,7 @@ ghost use Rattle.numbering.specs.Fill.{Sized};
 
 use answers::{Answer, Refusal};
 use counts::Counts;
+use kinds::Class;
 use structure::Stand;
 
 // One line, with its CR LF: copied, and its numbers written over what stood there.

@@ -43,7 +43,10 @@ fn follows(p: Class, c: Class) -> bool
         (Class::Unknown, Class::Hdr)
             | (Class::Hdr, Class::Grh)
             | (Class::Grh, Class::Head)
-            | (Class::Head | Class::Detail, Class::Head | Class::Detail | Class::Grt)
+            | (
+                Class::Head | Class::Detail,
+                Class::Head | Class::Detail | Class::Grt
+            )
             | (Class::Grt, Class::Grh | Class::Trl)
     )
 }
