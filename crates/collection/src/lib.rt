@@ -335,16 +335,6 @@ fn advance(
             }
             _ => w = w.past(row.size()),
         }
-            }
-            Class::Head => {
-                let s = judge_transaction(file, places, t, w, verdicts, findings);
-                if s.doubtful {
-                    return s;
-                }
-                w = s.walk;
-            }
-            _ => w = w.past(row.size()),
-        }
     }
 }
 
