@@ -9,7 +9,7 @@ use native.Mathlib.Omega.{arith}
 use borrow.Author.Tests.{eqb-true}
 use lib.Dec.{T, eqb}
 use lib.ListN.{length, get_or, take, drop, drop_of_length-le, length-drop, take-append-drop}
-use lib.Seq.{take-suc, take-add, drop-cons, drop-drop}
+use lib.Seq.{take-suc, take-add, drop-drop}
 use Rattle.format.specs.Bytes.{Bytes, every, is_text, Text, begins_pair}
 use Rattle.format.specs.Lines.{Lines, good, bad, lines}
 use Rattle.format.proofs.Lines.{onto, lines_cons, lines_left, lines-fault}
@@ -95,19 +95,6 @@ pair-after l t e = sym (take-append-drop l t) ∙ ap (λ x. take l t ++ x) (pair
 module _ (f : Bytes) (i : ℕ) where
   pub pair_fits : begins_pair (drop i f) ≡ true → i + 2 ≤ length f
   pair_fits e = omega (arith, length-drop i f, ap length (pair-split (drop i f) e))
-
-  pub pair-short : length f < i + 2 → begins_pair (drop i f) ≡ false
-  pair-short h = go (begins_pair (drop i f)) refl
-    where
-      go : (x : Bool) → begins_pair (drop i f) ≡ x → x ≡ false
-      go true e = absurd (omega (arith, pair_fits e))
-      go false e = refl
-
-  pub pair-bytes : i + 2 ≤ length f → begins_pair (drop i f) ≡ (eqb (get_or f i 0) 13 && eqb (get_or f (i + 1) 0) 10)
-  pair-bytes h =
-      let here : i < length f = omega arith in
-      let next : suc i < length f = omega arith in
-      rw (add-one, drop-cons f i 0, drop-cons f (suc i) 0)
 
 -- ---- lines
 

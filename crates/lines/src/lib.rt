@@ -54,13 +54,7 @@ pub fn all_text(part: &[u8]) -> bool
 pub fn pair_at(file: &[u8], at: usize) -> bool
     ensures { result ≡ begins_pair (drop at file.now) }
 {
-    if file.len() < 2 {
-        return false;
-    }
-    if file.len() - 2 < at {
-        return false;
-    }
-    (file[at] == b'\r') & (file[at + 1] == b'\n')
+    matches!(file.get(at..), Some([b'\r', b'\n', ..]))
 }
 
 // The end of the text that starts at a place: the first byte from there on that is not text, or the file's end.
@@ -74,7 +68,7 @@ pub fn text_end(file: &[u8], at: usize) -> usize
 }
 
 // How many lines there are from a place on, with so many before it; an error is how many there are before the fault. Each has two bytes at
-// least, so their number fits.
+// least, so their number fits. The loop is over a place, which goes on by a whole line.
 pub fn lines_from(file: &[u8], at: usize, before: usize) -> Result<usize, usize>
     requires { (at ≤ length file.now) × (before ≤ at) }
     ensures { result ≡ scanned before (lines (drop at file.now)) }

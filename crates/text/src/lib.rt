@@ -116,15 +116,7 @@ pub fn is_decimal(n: u64, part: &[u8]) -> bool
 
 // ---- eight bytes as one word, so that they are compared and written at once
 
-// A byte as a number with room for more.
-pub fn wide(b: u8) -> u64
-    ensures value { result ≡ b }
-    ensures upper_bound { result ≤ 255 }
-{
-    b as u64
-}
-
-// The word of eight bytes. In this order the compiler makes one load of it.
+// The word of eight bytes: one load.
 pub fn load_eight(part: &[u8]) -> u64
     requires { length part.now ≡ 8 }
     ensures value { result ≡ word_of part.now }
