@@ -2,7 +2,7 @@
 #![tactic(auto)]
 
 ghost use Rattle.std.specs.Prelude.{◌≡◌};
-ghost use Rattle.tables.specs.Which.{lent_in};
+ghost use Rattle.tables.specs.Lent.{lent_in};
 ghost use Rattle.format.specs.Lent.{in_room};
 ghost use Rattle.rules.specs.Outcome.{admission, enough};
 ghost use Rattle.rules.specs.WithTerritories.{admission_with};

@@ -13,7 +13,7 @@ ghost use Rattle.rules.specs.Outcome.{enough, content, short_tolerance};
 ghost use Rattle.rules.specs.First.{is_grave, first_at};
 ghost use Rattle.rules.specs.Claims.{sets_by_transaction};
 ghost use Rattle.answers.specs.Numbers.{answer_of};
-ghost use Rattle.tables.specs.Which.{lent_in};
+ghost use Rattle.tables.specs.Lent.{lent_in};
 ghost use Rattle.structure.specs.Cursor.{Here};
 ghost use Rattle.transactions.specs.Walk.{rest_at, Room};
 ghost use Rattle.files.specs.Levels.{WrittenFile};

@@ -6,7 +6,7 @@ ghost use Rattle.std.specs.Prelude.{◌≡◌, ◌≤◌, length};
 ghost use Rattle.format.specs.Bytes.{bytes_of};
 ghost use Rattle.rules.specs.Outcome.{short_tolerance};
 ghost use Rattle.rules.specs.Tables.{tables_of};
-ghost use Rattle.tables.specs.Which.{lent_in};
+ghost use Rattle.tables.specs.Lent.{lent_in};
 ghost use Rattle.territorial.specs.Promises.{over_of};
 ghost use Rattle.cwr.specs.Promises.{Counted, Lowest, RightLength};
 ghost use Rattle.cwr_c.specs.Promises.{CheckedC, FirstRejectedC, SheetAddedC, NumberedC};

@@ -60,7 +60,7 @@ pub fn is_code(code: &[u8], name: &[u8]) -> bool
     name == code
 }
 
-// What the three share fields of a record count, and whether one of them is bad.
+// What the three share fields of a record count, and whether one of them is bad: no Option, as with each of them.
 #[derive(Clone, Copy)]
 pub struct Shares {
     pub counts: Rights,

@@ -10,7 +10,7 @@ ghost use Rattle.format.specs.Structure.{most_bytes, first_record};
 ghost use Rattle.format.specs.Tree.{groups_in};
 ghost use Rattle.rules.specs.Tables.{Tables, language_size, society_size, category_size, right_table};
 ghost use Rattle.tables.specs.Index.{Indexed};
-ghost use Rattle.tables.specs.Which.{lent_in};
+ghost use Rattle.tables.specs.Lent.{lent_in};
 ghost use Rattle.structure.specs.Cursor.{Here};
 ghost use Rattle.transactions.specs.Walk.{rest_at, Prepared, Room, Filled};
 ghost use Rattle.files.specs.Levels.{transactions_of, group_of, PastTransactions, PastGroup, PastGroups};

@@ -18,7 +18,8 @@ pub fn pack(first: usize, holds: &[bool]) -> u64
     set << first
 }
 
-// The verdicts: field defaulted, record rejected, transaction rejected, group rejected.
+// The verdicts: field defaulted, record rejected, transaction rejected, group rejected. Numbers and no enum: they are the bytes that a check
+// writes into the buffer of a C caller, where the larger of two is found many at a time.
 pub const FR: u8 = 1;
 
 pub const RR: u8 = 2;

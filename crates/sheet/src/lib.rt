@@ -10,7 +10,7 @@ ghost use Rattle.format.specs.Structure.{most_bytes, most_records};
 ghost use Rattle.format.specs.Numbering.{records_in};
 ghost use Rattle.rules.specs.Tables.{language_size, society_size, category_size, right_table};
 ghost use Rattle.rules.specs.Sheet.{Taken as File, answer_to, is_refused, plus, within, plus_each, with_missed, missed_by, sheet_of, with_sheet, add};
-ghost use Rattle.tables.specs.Which.{lent_in};
+ghost use Rattle.tables.specs.Lent.{lent_in};
 ghost use Rattle.structure.specs.Cursor.{Here};
 ghost use Rattle.figures.specs.Counted.{told, Within, WithinAll, FiguresOf};
 ghost use Rattle.sheet.specs.Told.{told_missed, told_of, added_of};

@@ -1,20 +1,16 @@
--- The three tables as they are lent; and of the one that a code is looked up in, how long its codes are and where its part of the index begins.
+-- Internal: of the table that a code is looked up in, how long its codes are, its bytes, and where its part of the index begins.
 use Rattle.std.specs.Prelude.{ℕ, ◌+◌}
 use Rattle.format.specs.Bytes.{Bytes}
-use Rattle.rules.specs.Tables.{Tables as LentTables, tables_of, language_size, society_size, category_size}
-use Rattle.tables.specs.declared.Tables.{Tables}
+use Rattle.rules.specs.Tables.{Tables, language_size, society_size, category_size}
 use Rattle.tables.specs.declared.Table.{Table}
 use Rattle.tables.specs.Index.{part_size}
-
-abbrev pub lent_in : Tables → LentTables
-lent_in t = tables_of t.languages.now t.societies.now t.categories.now
 
 abbrev pub size_of : Table → ℕ
 size_of Table.Languages = language_size
 size_of Table.Societies = society_size
 size_of Table.Categories = category_size
 
-abbrev pub table_of : Table → LentTables → Bytes
+abbrev pub table_of : Table → Tables → Bytes
 table_of Table.Languages lent = lent.languages
 table_of Table.Societies lent = lent.societies
 table_of Table.Categories lent = lent.categories

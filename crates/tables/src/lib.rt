@@ -7,7 +7,8 @@ ghost use Rattle.format.specs.Bytes.{Bytes, among};
 ghost use Rattle.rules.specs.Tables.{Tables as LentTables, language_size, society_size, category_size, most_entries, right_table, entries, is_in};
 ghost use Rattle.tables.specs.Index.{hint_count, part_size, slot_count, key_of, hint_of, AreBytes, Free, Ascending, Stands, Kept, Inserted};
 ghost use Rattle.tables.specs.Index.{Part, Indexed};
-ghost use Rattle.tables.specs.Which.{lent_in, size_of, table_of, first_of};
+ghost use Rattle.tables.specs.Lent.{lent_in};
+ghost use Rattle.tables.specs.Which.{size_of, table_of, first_of};
 
 // The tables that a caller lends for a run.
 #[derive(Clone, Copy)]

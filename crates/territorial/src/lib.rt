@@ -11,7 +11,7 @@ ghost use Rattle.rules.specs.Tables.{Tables as LentTables};
 ghost use Rattle.rules.specs.Outcome.{enough};
 ghost use Rattle.rules.specs.WithTerritories.{answer_with, in_list};
 ghost use Rattle.answers.specs.Numbers.{answer_of};
-ghost use Rattle.tables.specs.Which.{lent_in};
+ghost use Rattle.tables.specs.Lent.{lent_in};
 ghost use Rattle.structure.specs.Cursor.{Here};
 ghost use Rattle.transactions.specs.Walk.{rest_at};
 ghost use Rattle.collection.specs.Walk.{steps_left};

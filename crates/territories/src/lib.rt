@@ -68,7 +68,8 @@ fn place_from(table: &[u8], from: usize, code: &[u8]) -> usize
     end
 }
 
-// The first entry that has this code; where none has, how many entries there are.
+// The first entry that has this code; where none has, how many entries there are. No Option: whoever asks compares it with that number, as
+// the rules do.
 pub fn position(table: &[u8], code: &[u8]) -> usize
     requires { length code.now ≡ 4 }
     ensures { result ≡ place_of code.now (codes_of (territories_in table.now)) }

@@ -4,7 +4,7 @@ use lib.Seq.{length-take-le}
 use Rattle.std.proofs.Math.Seq.{take_at}
 use Rattle.claims.specs.Entries.{over_in}
 use Rattle.parties.specs.Ahead.{entries_at}
-use Rattle.tables.specs.Which.{lent_in}
+use Rattle.tables.specs.Lent.{lent_in}
 use Rattle.territorial.proofs.Laws.{doubt, ended, refused-so, all-cleared, told-over}
 use Rattle.territorial.proofs.check.Goals as goal
 

@@ -1,5 +1,5 @@
 use Rattle.std.proofs.Common.{◌≡◌, length}
-use Rattle.tables.specs.Which.{lent_in}
+use Rattle.tables.specs.Lent.{lent_in}
 use Rattle.collection.specs.Walk.{steps_left}
 use Rattle.territorial.specs.Progress.{Going}
 use Rattle.territorial.proofs.check.Given as goal

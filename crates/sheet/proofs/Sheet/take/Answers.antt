@@ -2,7 +2,7 @@
 use mathlib.Core.Path.{sym, ap}
 use borrow.Author.Tests.{le-leb, lt-leb}
 use Rattle.admission.proofs.Fit.{let-in}
-use Rattle.tables.specs.Which.{lent_in}
+use Rattle.tables.specs.Lent.{lent_in}
 use Rattle.rules.specs.Sheet.{Taken, answer_to, is_refused}
 use Rattle.sheet.proofs.Adding.{full-so, taken-so}
 use Rattle.sheet.proofs.Sheet.take.Goals as goal
