@@ -7,9 +7,10 @@ ghost use Rattle.rules.specs.Values.{largest_tolerance};
 ghost use Rattle.rules.specs.Territories.{right_territories};
 ghost use Rattle.claims.specs.Zeros.{no_claim};
 ghost use Rattle.claims.specs.Entries.{over_in};
+ghost use Rattle.claims.specs.Work.{nothing};
 ghost use Rattle.parties.specs.Ahead.{entries_at, Within};
 
-use claims::Claim;
+use claims::{Claim, Taken};
 use values::Tolerance;
 
 // The first n entries are zeros.
@@ -37,9 +38,9 @@ pub fn fill(file: &[u8], table: &[u8], at: usize, claims: &mut [Claim]) -> usize
     n
 }
 
-// The first territory in which the claims come to too much, with words of zeros to count in.
-fn exceeding_in(claims: &[Claim], table: &[u8], t: Tolerance, work: &mut [u64]) -> usize
-    requires { (length claims.now ≤ most_records) × (right_territories table.now ≡ true) × (work.old ≡ replicate 4096 0) }
+// The first territory in which the claims come to too much, with a work table to count in where nothing is counted.
+fn exceeding_in(claims: &[Claim], table: &[u8], t: Tolerance, work: &mut [Taken]) -> usize
+    requires { (length claims.now ≤ most_records) × (right_territories table.now ≡ true) × (work.old ≡ replicate 512 nothing) }
     ensures { result ≡ over_in table.now t claims.now }
 {
     let mut last = 0;
@@ -49,12 +50,12 @@ fn exceeding_in(claims: &[Claim], table: &[u8], t: Tolerance, work: &mut [u64]) 
     claims::first_over(table, t, work)
 }
 
-// The same with words of its own.
+// The same with a work table of its own.
 pub fn exceeding(claims: &[Claim], table: &[u8], t: u64) -> usize
     requires { (length claims.now ≤ most_records) × (right_territories table.now ≡ true) × (t ≤ largest_tolerance) }
     ensures { result ≡ over_in table.now t claims.now }
 {
-    let mut work = [0u64; claims::WORDS];
+    let mut work = [Taken::none(); claims::TERRITORIES];
     let t = Tolerance { hundredths: t };
     exceeding_in(claims, table, t, &mut work)
 }

@@ -6,8 +6,8 @@ use mathlib.Core.Path.{◌≡◌, refl, sym, ap, ◌∙◌}
 use mathlib.Core.Bool.{Bool, true, false, cond, not, ◌&&◌, ◌||◌, true≢false}
 use mathlib.Core.List.{List, [], ◌∷◌, ◌++◌, append_assoc}
 use lib.Dec.{eqb, ltb}
-use lib.ListN.{length, get_or, take, drop, length-append, length-drop, get_or-eq_default, replicate, length-replicate, get_or-replicate}
-use lib.Seq.{length-take-le}
+use lib.ListN.{length, get_or, set, length-set, take, drop, length-append, length-drop, get_or-eq_default, replicate, length-replicate, get_or-replicate}
+use lib.Seq.{length-take-le, get_or-set_same, get_or-set_other}
 use borrow.Author.Tests.{eqb-true, eqb-false, ne_eqb, ltb-true, ltb-false, lt-ltb, le-ltb}
 use Rattle.format.specs.Bytes.{Bytes, same_bytes}
 use Rattle.format.specs.Structure.{most_records}
@@ -22,8 +22,10 @@ use Rattle.territories.proofs.Entries.{code_is}
 use Rattle.rules.proofs.Names.{names_at, length-names, by-group, RightTable, right-table, length-territories}
 use Rattle.territories.proofs.Laws.{only-place, at_place, length-codes, within}
 use Rattle.claims.specs.declared.Claim.{Claim}
+use Rattle.claims.specs.declared.Taken.{Taken}
 use Rattle.claims.specs.Entries.{gives, is_ignored, begins, party_with, speaks, gives_with, comes_to}
-use Rattle.claims.specs.Work.{word_of, current, closed, of_right, Placed, Bounded, Stands, Counted}
+use Rattle.claims.specs.Work.{of_right, nothing, Small, taken_with, current, closed, Stands, Counted}
+use Rattle.claims.proofs.Work.{of-cond, of-plus, of-rights}
 
 -- ---- one right in one territory
 
@@ -54,6 +56,17 @@ pub stands-as : (T : List Territory) (es : List Claim) (p q j : ℕ) (r : Right)
     → Stands T es p j r m d → Stands T es q j r n c
 stands-as T es p q j r n m c d e f g s = rw (← e, f, g) s
 
+-- what stands there is small
+pub small-at : (table : Bytes) (es : List Claim) (last : ℕ) (work : List Taken) → Counted table es last work
+    → (j : ℕ) → j < length (territories_in table) → length es ≤ most_records → Small (get_or work j nothing)
+small-at table es last work counted j h few = ((least PR, least MR, least SR), (room PR, room MR, room SR))
+  where
+    least : (r : Right) → current work j r ≤ 2 ^ 32
+    least r = (counted.stands j h r).small
+
+    room : (r : Right) → closed work j r ≤ 2 ^ 60
+    room r = let most = (counted.stands j h r).roomy in omega (arith, most, few)
+
 -- ---- whether an entry speaks of a territory: its own position, or its group is spoken of
 
 -- a code is not empty
@@ -69,21 +82,18 @@ code-some table j h =
 
 -- ---- all territories before position j have the entry, those from there on have not
 
-pub record Counting (table : Bytes) (e : Claim) (last : ℕ) (old : List ℕ) (j : ℕ) (work : List ℕ) : Type 0 where
+pub record Counting (table : Bytes) (e : Claim) (last : ℕ) (old : List Taken) (j : ℕ) (work : List Taken) : Type 0 where
   pub long : length work ≡ length old
-  pub spoken : (i : ℕ) → i < j → get_or work (8 * i) 0 ≡ cond (speaks (territories_in table) i e) 1 0
-  pub current-with : (i : ℕ) → i < j → (r : Right) → current work i r ≡ gives_with (territories_in table) r i last (current old i r) e
-  pub closed-with : (i : ℕ) → i < j → (r : Right) → closed work i r ≡ closed old i r + cond (begins last e) (current old i r) 0
-  pub left : (i k : ℕ) → j ≤ i → k < 8 → get_or work (8 * i + k) 0 ≡ get_or old (8 * i + k) 0
+  pub with_it : (i : ℕ) → i < j
+      → get_or work i nothing ≡ taken_with (speaks (territories_in table) i e) (not (eqb e.party last)) (rights (λ r. gives r e)) (get_or old i nothing)
+  pub left : (i : ℕ) → j ≤ i → get_or work i nothing ≡ get_or old i nothing
 
-pub counting-none : (table : Bytes) (e : Claim) (last : ℕ) (old : List ℕ) → Counting table e last old 0 old
+pub counting-none : (table : Bytes) (e : Claim) (last : ℕ) (old : List Taken) → Counting table e last old 0 old
 counting-none table e last old =
     record {
       long = refl;
-      spoken = λ i h. absurd (omega arith);
-      current-with = λ i h r. absurd (omega arith);
-      closed-with = λ i h r. absurd (omega arith);
-      left = λ i k h l. refl;
+      with_it = λ i h. absurd (omega arith);
+      left = λ i h. refl;
     }
 
 module _ (table : Bytes) (right : RightTable table) (e : Claim) where
@@ -108,14 +118,10 @@ module _ (table : Bytes) (right : RightTable table) (e : Claim) where
       let beyond = ltb-false e.code (length codes) l in
       rw (get_or-eq_default codes [] beyond, code-some table j h) (sym (ne_eqb j e.code (λ z. omega (arith, h, beyond, length-codes T)))))
 
-  bit-read : (b : Bool) → eqb (cond b 1 0) 1 ≡ b
-  bit-read true = refl
-  bit-read false = refl
-
   -- where the territories before position j have been looked at
-  pub speaks-at : (work : List ℕ) (j group : ℕ) → j < length T → group ≡ get_or (groups_of T) j no_group
-      → ((i : ℕ) → i < j → get_or work (8 * i) 0 ≡ cond (speaks T i e) 1 0)
-      → (eqb j e.code || (ltb group j && eqb (get_or work (8 * group) 0) 1)) ≡ speaks T j e
+  pub speaks-at : (work : List Taken) (j group : ℕ) → j < length T → group ≡ get_or (groups_of T) j no_group
+      → ((i : ℕ) → i < j → (get_or work i nothing).speaks ≡ speaks T i e)
+      → (eqb j e.code || (ltb group j && (get_or work group nothing).speaks)) ≡ speaks T j e
   speaks-at work j group h g spoken =
       rw (names_at T right.earlier right.few j h, own-place j h, ← g)
       (ap (λ (b : Bool). eqb j e.code || b)
@@ -126,81 +132,29 @@ module _ (table : Bytes) (right : RightTable table) (e : Claim) where
       rw (far, le-ltb no_group j (omega (arith, h, right.few)), get_or-eq_default (names T) [] past))
       (λ earlier.
       let before : group < j = omega (arith, g, earlier) in
-      rw (lt-ltb group j before, spoken group before) (bit-read (speaks T group e)))))
+      rw (lt-ltb group j before, spoken group before) refl)))
 
-  module _ (last : ℕ) (old : List ℕ) where
-    word_small : (r : Right) → word_of r < 8
-    word_small PR = omega arith
-    word_small MR = omega arith
-    word_small SR = omega arith
+  module _ (last : ℕ) (old : List Taken) where
+    module _ (j : ℕ) (work : List Taken) (c : Counting table e last old j work) where
+      pub spoken-before : (i : ℕ) → i < j → (get_or work i nothing).speaks ≡ speaks T i e
+      spoken-before i h = ap (λ (x : Taken). x.speaks) (c.with_it i h)
 
-    after_small : (r : Right) → word_of r + 3 < 8
-    after_small PR = omega arith
-    after_small MR = omega arith
-    after_small SR = omega arith
-
-    apart : (i : ℕ) (r : Right) → 8 * i + word_of r + 3 ≡ 8 * i + (word_of r + 3)
-    apart i r = add_assoc (8 * i) (word_of r) 3
-
-    -- the words of a territory that is left
-    module _ (j : ℕ) (work : List ℕ) (c : Counting table e last old j work) where
-      left-current : (i : ℕ) → j ≤ i → (r : Right) → current work i r ≡ current old i r
-      left-current i h r = c.left i (word_of r) h (word_small r)
-
-      left-closed : (i : ℕ) → j ≤ i → (r : Right) → closed work i r ≡ closed old i r
-      left-closed i h r = rw (apart i r) (c.left i (word_of r + 3) h (after_small r))
-
-      pub counting-bounded : (es : List Claim) → Counted table es last old → length es ≤ most_records → j < length T → Bounded j work
-      counting-bounded es counted few h =
-          record {
-            inside = omega (arith, c.long, counted.long, h, right.few);
-            small = λ r. rw (left-current j (omega arith) r) (counted.stands j h r).small;
-            roomy = λ r. rw (left-closed j (omega arith) r) (let most = (counted.stands j h r).roomy in omega (arith, most, few));
-          }
+      pub counting-small : (es : List Claim) → Counted table es last old → length es ≤ most_records → j < length T → Small (get_or work j nothing)
+      counting-small es counted few h = rw (c.left j (omega arith)) (small-at table es last old counted j h few)
 
       -- the entry is some party's
-      module _ (its : is_ignored e ≡ false) (given : Rights) (g : given ≡ rights (λ r. gives r e)) (b s : Bool) (is-new : b ≡ not (eqb e.party last))
-          (is-spoken : s ≡ speaks T j e) (next : List ℕ) (p : Placed j s b given work next) where
-        given_is : (r : Right) → of_right given r ≡ gives r e
-        given_is PR = rw g
-        given_is MR = rw g
-        given_is SR = rw g
-
-        gives-is : (r : Right) (n : ℕ) → cond s (of_right given r) (cond b 0 n) ≡ gives_with T r j last n e
-        gives-is r n = rw (given_is r, is-spoken, its, is-new)
-
-        gave-is : (n : ℕ) → cond b n 0 ≡ cond (begins last e) n 0
-        gave-is n = rw (its, is-new)
-
-        kept_word : (i k : ℕ) → k < 8 → (i ≡ j → ⊥) → get_or next (8 * i + k) 0 ≡ get_or work (8 * i + k) 0
-        kept_word = p.kept
-
-        at_first : (i : ℕ) → 8 * i + 0 ≡ 8 * i
-        at_first i = omega arith
-
-        pub counting-on : Counting table e last old (j + 1) next
-        counting-on =
-            record {
-              long = p.long ∙ c.long;
-              spoken =
-                  λ i h.
-                  by_cases (eqb i j)
-                  (λ z. rw (eqb-true i j z) (p.spoken ∙ rw is-spoken))
-                  (λ z. let n = eqb-false i j z in (rw (at_first i) at (kept_word i 0 (omega arith) n)) ∙ c.spoken i (omega (arith, h, n)));
-              current-with =
-                  λ i h r.
-                  by_cases (eqb i j)
-                  (λ z. rw (eqb-true i j z) (p.gives r ∙ rw (left-current j (omega arith) r) (gives-is r (current old j r))))
-                  (λ z. let n = eqb-false i j z in kept_word i (word_of r) (word_small r) n ∙ c.current-with i (omega (arith, h, n)) r);
-              closed-with =
-                  λ i h r.
-                  by_cases (eqb i j)
-                  (λ z. rw (eqb-true i j z) (p.gave r ∙ rw (left-current j (omega arith) r, left-closed j (omega arith) r) (ap (λ (n : ℕ). closed old j r + n) (gave-is (current old j r)))))
-                  (λ z.
-                  let n = eqb-false i j z in
-                  rw (apart i r) (kept_word i (word_of r + 3) (after_small r) n) ∙ c.closed-with i (omega (arith, h, n)) r);
-              left = λ i k h l. kept_word i k l (λ z. omega (arith, z, h)) ∙ c.left i k (omega arith) l;
-            }
+      pub counting-on : (s : Bool) (given : Rights) → s ≡ speaks T j e → given ≡ rights (λ r. gives r e) → j < length T → length T ≤ length work
+          → (x : Taken) → x ≡ taken_with s (not (eqb e.party last)) given (get_or work j nothing) → Counting table e last old (j + 1) (set work j x)
+      counting-on s given f g h room x is =
+          record {
+            long = length-set work j x ∙ c.long;
+            with_it =
+                λ i l.
+                by_cases (eqb i j)
+                (λ z. rw (eqb-true i j z, get_or-set_same work j x nothing (omega (arith, h, room))) (is ∙ rw (f, g, c.left j (omega arith)) refl))
+                (λ z. let n = eqb-false i j z in get_or-set_other work j i x nothing n ∙ c.with_it i (omega (arith, l, n)));
+            left = λ i l. get_or-set_other work j i x nothing (λ z. omega (arith, z, l)) ∙ c.left i (omega arith);
+          }
 
     -- once all have it
     pub small-each : (given : Rights) → given ≡ rights (λ r. gives r e) → AtMost (2 ^ 32) given → (r : Right) → gives r e ≤ 2 ^ 32
@@ -208,21 +162,38 @@ module _ (table : Bytes) (right : RightTable table) (e : Claim) where
     small-each given g most MR = rw g at most.1
     small-each given g most SR = rw g at most.2
 
-    pub counting-all : (work : List ℕ) (n : ℕ) → n ≡ length T → Counting table e last old n work → is_ignored e ≡ false → ((r : Right) → gives r e ≤ 2 ^ 32)
-        → (es : List Claim) → Counted table es last old → Counted table (es ++ e ∷ []) e.party work
-    counting-all work n is c its small es counted =
-        record {
-          long = c.long ∙ counted.long;
-          stands =
-              λ j h r.
-              let before : j < n = omega (arith, is, h) in
-              let party : party_with last e ≡ e.party = rw its in
-              stands-as T (es ++ e ∷ []) _ _ j r _ _ _ _ party (c.current-with j before r) (c.closed-with j before r)
-              (stands_on T es last j r (current old j r) (closed old j r) e (counted.stands j h r) (λ _. small r));
-        }
+    module _ (work : List Taken) (n : ℕ) (c : Counting table e last old n work) (its : is_ignored e ≡ false) where
+      current-with : (i : ℕ) → i < n → (r : Right) → current work i r ≡ gives_with T r i last (current old i r) e
+      current-with i h r =
+          let x = get_or old i nothing in
+          let b = not (eqb e.party last) in
+          let none = rights (λ _. 0) in
+          ap (λ (y : Taken). of_right y.current r) (c.with_it i h)
+          ∙ rw (its, of-cond (speaks T i e) (rights (λ q. gives q e)) (cond b none x.current) r, of-cond b none x.current r, of-rights (λ q. gives q e) r, of-rights (λ _. 0) r) refl
+
+      closed-with : (i : ℕ) → i < n → (r : Right) → closed work i r ≡ closed old i r + cond (begins last e) (current old i r) 0
+      closed-with i h r =
+          let x = get_or old i nothing in
+          let b = not (eqb e.party last) in
+          let none = rights (λ _. 0) in
+          ap (λ (y : Taken). of_right y.before r) (c.with_it i h)
+          ∙ rw (its, of-plus x.before (cond b x.current none) r, of-cond b x.current none r, of-rights (λ _. 0) r) refl
+
+      pub counting-all : n ≡ length T → ((r : Right) → gives r e ≤ 2 ^ 32)
+          → (es : List Claim) → Counted table es last old → Counted table (es ++ e ∷ []) e.party work
+      counting-all is small es counted =
+          record {
+            long = c.long ∙ counted.long;
+            stands =
+                λ j h r.
+                let before : j < n = omega (arith, is, h) in
+                let party : party_with last e ≡ e.party = rw its in
+                stands-as T (es ++ e ∷ []) _ _ j r _ _ _ _ party (current-with j before r) (closed-with j before r)
+                (stands_on T es last j r (current old j r) (closed old j r) e (counted.stands j h r) (λ _. small r));
+          }
 
 -- an entry that is ignored
-pub counted-ignored : (table : Bytes) (es : List Claim) (last : ℕ) (work : List ℕ) (e : Claim) → is_ignored e ≡ true
+pub counted-ignored : (table : Bytes) (es : List Claim) (last : ℕ) (work : List Taken) (e : Claim) → is_ignored e ≡ true
     → Counted table es last work → Counted table (es ++ e ∷ []) last work
 counted-ignored table es last work e its counted =
     record {
@@ -239,28 +210,15 @@ counted-ignored table es last work e its counted =
     none its c n = rw its (omega arith)
 
 -- before any
-pub counted_start : (table : Bytes) → right_territories table ≡ true → Counted table [] 0 (replicate 4096 0)
+pub counted_start : (table : Bytes) → right_territories table ≡ true → Counted table [] 0 (replicate 512 nothing)
 counted_start table right =
     record {
-      long = length-replicate {A = ℕ} 4096 0;
-      stands = λ j h r. rw (zeros (8 * j + word_of r) (within-words j h r), zeros (8 * j + word_of r + 3) (within-after j h r)) none;
+      long = length-replicate {A = Taken} 512 nothing;
+      stands = λ j h r. rw (get_or-replicate 512 j nothing nothing (omega (arith, h, few)), of-rights (λ _. 0) r) none;
     }
   where
     none : {T : List Territory} {j : ℕ} {r : Right} → Stands T [] 0 j r 0 0
     none = record { rest = λ more. zero-add _; small = omega arith; roomy = omega arith }
 
-    zeros : (p : ℕ) → p < 4096 → ◌≡◌ {A = ℕ} (get_or (replicate 4096 0) p 0) 0
-    zeros p h = get_or-replicate 4096 p 0 0 h
-
     few : length (territories_in table) ≤ 512
     few = (right-table table right).few
-
-    within-words : (j : ℕ) → j < length (territories_in table) → (r : Right) → 8 * j + word_of r < 4096
-    within-words j h PR = omega (arith, few)
-    within-words j h MR = omega (arith, few)
-    within-words j h SR = omega (arith, few)
-
-    within-after : (j : ℕ) → j < length (territories_in table) → (r : Right) → 8 * j + word_of r + 3 < 4096
-    within-after j h PR = omega (arith, few)
-    within-after j h MR = omega (arith, few)
-    within-after j h SR = omega (arith, few)

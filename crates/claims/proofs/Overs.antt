@@ -10,7 +10,6 @@ use lib.Dec.{eqb}
 use lib.ListN.{length, get_or, drop, replicate, get_or-replicate}
 use lib.Seq.{drop-cons, drop-length}
 use Rattle.format.specs.Bytes.{Bytes}
-use Rattle.format.specs.Structure.{most_records}
 use Rattle.format.proofs.Tests.{by_cases}
 use Rattle.rules.specs.Values.{full_share}
 use Rattle.rules.specs.Records.{any}
@@ -21,8 +20,9 @@ use Rattle.territories.specs.Positions.{groups_of}
 use Rattle.territories.proofs.Entries.{map_at}
 use Rattle.rules.proofs.Names.{length-names}
 use Rattle.claims.specs.declared.Claim.{Claim}
+use Rattle.claims.specs.declared.Taken.{Taken}
 use Rattle.claims.specs.Entries.{entries_from, comes_to, is_over_in, is_over_at, first_from, over_in}
-use Rattle.claims.specs.Work.{current, closed, Bounded, Counted, Held}
+use Rattle.claims.specs.Work.{current, closed, Counted, Held}
 use Rattle.claims.proofs.Totals.{comes-to-total}
 
 -- ---- positions that hold another: those of the territories before the j-th are marked
@@ -68,17 +68,9 @@ first_on p j n h e =
     let one : j + 1 ≡ suc j = omega arith in
     rw (next, e, ← one)
 
-module _ (table : Bytes) (es : List Claim) (last : ℕ) (work : List ℕ) (counted : Counted table es last work) where
+module _ (table : Bytes) (es : List Claim) (last : ℕ) (work : List Taken) (counted : Counted table es last work) where
   abbrev T : List Territory
   T = territories_in table
-
-  pub bounded : (j : ℕ) → j < length T → length T ≤ 512 → length es ≤ most_records → Bounded j work
-  bounded j h few less =
-      record {
-        inside = omega (arith, counted.long, h, few);
-        small = λ r. (counted.stands j h r).small;
-        roomy = λ r. let most = (counted.stands j h r).roomy in omega (arith, most, less);
-      }
 
   total : (j : ℕ) → j < length T → (r : Right) → closed work j r + current work j r ≡ comes_to T r j 0 0 es
   total j h r = rw (append-nil es) at ((counted.stands j h r).rest [])

@@ -1,5 +1,4 @@
-// The claims of a transaction as entries of a list, and what they come to in each territory. In a work table there are eight words for a
-// territory: whether the entry at hand speaks of it, and by right what the party at hand gives there and what the parties before it gave.
+// The claims of a transaction as entries of a list, and what they come to in each territory. A work table has one element for a territory.
 #![tactic(auto)]
 
 ghost use Rattle.std.specs.Prelude.{◌≡◌, true, false, cond, ◌&&◌, ◌||◌, List, [], ◌∷◌, ◌++◌, ℕ, ◌+◌, ◌*◌, ◌^◌, ◌<◌, ◌≤◌, eqb, ltb, length, get_or, replicate};
@@ -9,7 +8,7 @@ ghost use Rattle.rules.specs.Territories.{territories_in, right_territories};
 ghost use Rattle.totals.specs.Sums.{rights, AtMost};
 ghost use Rattle.claims.specs.declared.Claim.{Claim};
 ghost use Rattle.claims.specs.Entries.{gives, over_in};
-ghost use Rattle.claims.specs.Work.{current, closed, Settled, Bounded, Placed, Counted, Underway, Summed, Held};
+ghost use Rattle.claims.specs.Work.{nothing, taken_with, Small, Counted, Underway, Summed, Held};
 
 use totals::Rights;
 use values::{Share, Tolerance};
@@ -49,41 +48,67 @@ impl Claim {
 
 // ---- the work table
 
-// The words of all territories, and those of one.
-pub const WORDS: usize = 4096;
+// It has an element for each territory that a table may have.
+pub const TERRITORIES: usize = territories::MOST;
 
-// One right in one territory: the word here is what the party at hand gives, and three words on is what those before it gave.
-fn settle(work: &mut [u64], at: usize, speaks: bool, begins: bool, share: u64)
-    requires { (at + 3 < length work.old) × (get_or work.old at 0 ≤ 2 ^ 32) × (get_or work.old (at + 3) 0 ≤ 2 ^ 60) }
-    ensures { Settled at speaks begins share work.old work.new }
-{
-    let current = work[at];
-    work[at + 3] += choice::pick(begins, current, 0);
-    work[at] = choice::pick(speaks, share, choice::pick(begins, 0, current));
+// What the entries counted so far come to in one territory.
+#[derive(Clone, Copy)]
+pub struct Taken {
+    // Whether the entry at hand speaks of it.
+    pub speaks: bool,
+    // What the party at hand gives there.
+    pub current: Rights,
+    // What the parties before it gave.
+    pub before: Rights,
 }
 
-// The territory at position j, with one entry more.
-fn place(work: &mut [u64], j: usize, speaks: bool, begins: bool, given: Rights)
-    requires { Bounded j work.old }
-    ensures { Placed j speaks begins given work.old work.new }
-{
-    let at = 8 * j;
-    work[at] = u64::from(speaks);
-    settle(work, at + 1, speaks, begins, given.pr);
-    settle(work, at + 2, speaks, begins, given.mr);
-    settle(work, at + 3, speaks, begins, given.sr);
+impl Taken {
+    // Before any entry.
+    pub fn none() -> Taken
+        ensures { result ≡ nothing }
+    {
+        Taken {
+            speaks: false,
+            current: Rights::none(),
+            before: Rights::none(),
+        }
+    }
+
+    // With one entry more, that speaks of the territory or not, and begins a party or not.
+    fn with(self, speaks: bool, begins: bool, given: Rights) -> Taken
+        requires { Small self }
+        ensures { result ≡ taken_with speaks begins given self }
+    {
+        let none = Rights::none();
+        Taken {
+            speaks,
+            current: choice::pick(speaks, given, choice::pick(begins, none, self.current)),
+            before: self.before.with(choice::pick(begins, self.current, none)),
+        }
+    }
+
+    // Whether some right comes to more than all.
+    fn is_over(self, t: Tolerance) -> bool
+        requires { Small self }
+        ensures { result ≡ (exceeds t full_share (self.before.pr + self.current.pr)
+            || exceeds t full_share (self.before.mr + self.current.mr)
+            || exceeds t full_share (self.before.sr + self.current.sr)) }
+    {
+        let all = self.before.with(self.current);
+        exceeds(all.pr, t) | exceeds(all.mr, t) | exceeds(all.sr, t)
+    }
 }
 
-// Whether the entry at hand speaks of the group of the territory at position j. A group stands earlier, so that its word is set by then.
-fn group_spoken(work: &[u64], group: usize, j: usize) -> bool
-    requires { 8 * j ≤ length work.now }
-    ensures { result ≡ (ltb group j && eqb (get_or work.now (8 * group) 0) 1) }
+// Whether the entry at hand speaks of the group of the territory at position j. A group stands earlier, so that its flag is set by then.
+fn group_spoken(work: &[Taken], group: usize, j: usize) -> bool
+    requires { j ≤ length work.now }
+    ensures { result ≡ (ltb group j && (get_or work.now group nothing).speaks) }
 {
-    group < j && work[8 * group] == 1
+    group < j && work[group].speaks
 }
 
 // With one entry more, after an entry of that party; the party at hand is answered. Groups stand before what they hold, so one pass does.
-pub fn count(last: u32, claim: Claim, table: &[u8], work: &mut [u64]) -> u32
+pub fn count(last: u32, claim: Claim, table: &[u8], work: &mut [Taken]) -> u32
     requires { Underway table.now last work.old }
     ensures { (es : List Claim) → Counted table.now es last work.old
         → Counted table.now (es ++ claim ∷ []) result work.new }
@@ -98,7 +123,8 @@ pub fn count(last: u32, claim: Claim, table: &[u8], work: &mut [u64]) -> u32
     for j in 0..n {
         let group = territories::group(table, j);
         let speaks = (j == code) | group_spoken(work, group, j);
-        place(work, j, speaks, begins, given);
+        let taken = &mut work[j];
+        *taken = taken.with(speaks, begins, given);
     }
     claim.party
 }
@@ -127,28 +153,16 @@ fn hold_all(table: &[u8], held: &mut [bool; 512])
     }
 }
 
-// Whether one right comes to more than all, the word of the party at hand being here.
-fn exceeds(work: &[u64], at: usize, t: Tolerance) -> bool
-    requires { (at + 3 < length work.now) × (get_or work.now at 0 ≤ 2 ^ 32) × (get_or work.now (at + 3) 0 ≤ 2 ^ 60) }
-    ensures { result ≡ exceeds t full_share (get_or work.now (at + 3) 0 + get_or work.now at 0) }
+// Whether a share is more than all.
+fn exceeds(share: u64, t: Tolerance) -> bool
+    ensures { result ≡ exceeds t full_share share }
 {
-    !Share::at_most(work[at + 3] + work[at], Share::FULL, t)
-}
-
-// Whether some right does in the territory at position j.
-fn is_over(work: &[u64], j: usize, t: Tolerance) -> bool
-    requires { Bounded j work.now }
-    ensures { result ≡ (exceeds t full_share (closed work.now j PR + current work.now j PR)
-        || exceeds t full_share (closed work.now j MR + current work.now j MR)
-        || exceeds t full_share (closed work.now j SR + current work.now j SR)) }
-{
-    let at = 8 * j;
-    exceeds(work, at + 1, t) | exceeds(work, at + 2, t) | exceeds(work, at + 3, t)
+    !Share::at_most(share, Share::FULL, t)
 }
 
 // The first territory without members in which the entries counted come to more than all of some right; where there is none, how many
 // territories there are.
-pub fn first_over(table: &[u8], t: Tolerance, work: &[u64]) -> usize
+pub fn first_over(table: &[u8], t: Tolerance, work: &[Taken]) -> usize
     requires { (right_territories table.now ≡ true) × Summed table.now work.now }
     ensures { (es : List Claim) (last : ℕ) → Counted table.now es last work.now → result ≡ over_in table.now t es }
 {
@@ -156,7 +170,7 @@ pub fn first_over(table: &[u8], t: Tolerance, work: &[u64]) -> usize
     hold_all(table, &mut held);
     let n = territories::count(table);
     for j in 0..n {
-        if !held[j] & is_over(work, j, t) {
+        if !held[j] & work[j].is_over(t) {
             return j;
         }
     }

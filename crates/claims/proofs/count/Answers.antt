@@ -1,6 +1,6 @@
 -- `claims::count` meets its contract: the territories before position j have the entry.
 use Prim.Native.Nat.{ℕ, ◌≤◌}
-use mathlib.Core.Path.{◌≡◌, refl}
+use mathlib.Core.Path.{◌≡◌}
 use mathlib.Core.List.{List}
 use native.Mathlib.Omega.{arith}
 use borrow.Author.Tests.{eq-eqb, ne_eqb}
@@ -8,7 +8,8 @@ use Rattle.format.specs.Bytes.{Bytes}
 use Rattle.rules.proofs.Names.{right-table}
 use Rattle.territories.proofs.Laws.{within}
 use Rattle.claims.specs.declared.Claim.{Claim}
-use Rattle.claims.proofs.Counting.{Counting, counting-none, counting-bounded, counting-on, counting-all, counted-ignored, small-each, speaks-at}
+use Rattle.claims.specs.declared.Taken.{Taken}
+use Rattle.claims.proofs.Counting.{Counting, counting-none, counting-small, counting-on, counting-all, counted-ignored, small-each, speaks-at, spoken-before}
 use Rattle.claims.proofs.count.Goals as goal
 
 pub returns-then-claim-eq0 : goal.returns-then-claim-eq0
@@ -30,12 +31,23 @@ group_spoken-requires c =
     let few = (right-table c.args.table.now c.requires.3).few in
     omega (arith, c.loop-j-test.true, n, few, l.invariant.1.long, c.requires.1.long)
 
-pub place-requires : goal.place-requires
-place-requires c =
+pub bounds-work-j : goal.bounds-work-j
+bounds-work-j c =
+    let l = c.loop-j in
+    let few = (right-table c.args.table.now c.requires.3).few in
+    omega (arith, c.loop-j-test.true, c.count-n.ensures, few, l.invariant.1.long, c.requires.1.long)
+
+pub offset_bounds-work-j : goal.offset_bounds-work-j
+offset_bounds-work-j c =
+    let few = (right-table c.args.table.now c.requires.3).few in
+    omega (arith, c.loop-j-test.true, c.count-n.ensures, few)
+
+pub with-requires : goal.with-requires
+with-requires c =
     let l = c.loop-j in
     let n = c.count-n.ensures in
     let right = right-table c.args.table.now c.requires.3 in
-    counting-bounded c.args.table.now right c.args.claim c.args.last c.args.work.now l.j l.work l.invariant.1
+    counting-small c.args.table.now right c.args.claim c.args.last c.args.work.now l.j l.work l.invariant.1
     c.requires.0 c.requires.1 (omega (arith, c.requires.2)) (omega (arith, c.loop-j-test.true, n))
 
 pub loop-j-preserved : goal.loop-j-preserved
@@ -43,16 +55,15 @@ loop-j-preserved c =
     let l = c.loop-j in
     let n = c.count-n.ensures in
     let right = right-table c.args.table.now c.requires.3 in
-    let some = ne_eqb _ 0 c.if-claim-eq0.false in (
+    let so-far = spoken-before c.args.table.now right c.args.claim c.args.last c.args.work.now l.j l.work l.invariant.1 in (
       omega (arith, c.loop-j-test.true),
-      counting-on c.args.table.now right c.args.claim c.args.last c.args.work.now l.j l.work l.invariant.1
-          some _ c.given-given.ensures.value _ _ refl
-          (rw c.group_spoken.ensures (speaks-at c.args.table.now right c.args.claim l.work l.j _ (omega (arith, c.loop-j-test.true, n)) c.group-group.ensures.value l.invariant.1.spoken))
-          _ c.place.ensures,
+      counting-on c.args.table.now right c.args.claim c.args.last c.args.work.now l.j l.work l.invariant.1 _ _
+          (rw c.group_spoken.ensures (speaks-at c.args.table.now right c.args.claim l.work l.j _ (omega (arith, c.loop-j-test.true, n)) c.group-group.ensures.value so-far))
+          c.given-given.ensures.value (omega (arith, c.loop-j-test.true, n)) (omega (arith, l.invariant.1.long, c.requires.1.long, right.few)) _ c.with.ensures,
     )
 
 -- at the end
-counted-at : {table : Bytes} {e : Claim} {last j n : ℕ} {old work : List ℕ} → j ≤ n → n ≤ j → Counting table e last old j work
+counted-at : {table : Bytes} {e : Claim} {last j n : ℕ} {old work : List Taken} → j ≤ n → n ≤ j → Counting table e last old j work
     → Counting table e last old n work
 counted-at {table} {e} {last} {j} {n} {old} {work} h l c = let z : n ≡ j = omega arith in rw z c
 
@@ -61,7 +72,7 @@ returns c es counted =
     let l = c.loop-j in
     let right = right-table c.args.table.now c.requires.3 in
     let some = ne_eqb _ 0 c.if-claim-eq0.false in
-    counting-all c.args.table.now right c.args.claim c.args.last c.args.work.now l.work _ c.count-n.ensures
-    (counted-at l.invariant.0 c.loop-j-test.false l.invariant.1) some
+    counting-all c.args.table.now right c.args.claim c.args.last c.args.work.now l.work _
+    (counted-at l.invariant.0 c.loop-j-test.false l.invariant.1) some c.count-n.ensures
     (small-each c.args.table.now right c.args.claim c.args.last c.args.work.now _ c.given-given.ensures.value c.given-given.ensures.at_most)
     es counted

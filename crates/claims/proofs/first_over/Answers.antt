@@ -6,7 +6,8 @@ use native.Mathlib.Omega.{arith}
 use Rattle.rules.specs.Territories.{territories_in}
 use Rattle.rules.proofs.Names.{right-table}
 use Rattle.claims.specs.Entries.{is_over_at, first_from}
-use Rattle.claims.proofs.Overs.{first-here, first_on, bounded, tested, over-start}
+use Rattle.claims.proofs.Overs.{first-here, first_on, tested, over-start}
+use Rattle.claims.proofs.Counting.{small-at}
 use Rattle.claims.proofs.first_over.Goals as goal
 
 pub hold_all-requires : goal.hold_all-requires
@@ -24,8 +25,18 @@ pub is_over-requires : goal.is_over-requires
 is_over-requires c =
     let l = c.loop-j in
     let (es, last, counted, less) = c.requires.1 in
-    bounded c.args.table.now es last c.args.work.now counted l.j (omega (arith, c.loop-j-test.true, c.count-n.ensures))
-    (right-table c.args.table.now c.requires.0).few less
+    small-at c.args.table.now es last c.args.work.now counted l.j (omega (arith, c.loop-j-test.true, c.count-n.ensures)) less
+
+pub bounds-work-j : goal.bounds-work-j
+bounds-work-j c =
+    let (es, last, counted, less) = c.requires.1 in
+    let few = (right-table c.args.table.now c.requires.0).few in
+    omega (arith, c.loop-j-test.true, c.count-n.ensures, few, counted.long)
+
+pub offset_bounds-work-j : goal.offset_bounds-work-j
+offset_bounds-work-j c =
+    let few = (right-table c.args.table.now c.requires.0).few in
+    omega (arith, c.loop-j-test.true, c.count-n.ensures, few)
 
 pub returns-then-held-j : goal.returns-then-held-j
 returns-then-held-j c es last counted =
