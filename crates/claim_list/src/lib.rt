@@ -50,7 +50,7 @@ fn exceeding_in(claims: &[Claim], table: &[u8], t: Tolerance, work: &mut [Taken]
     claims::first_over(table, t, work)
 }
 
-// The same with a work table of its own.
+// The same with a work table of its own, of 512 times 56 bytes.
 pub fn exceeding(claims: &[Claim], table: &[u8], t: u64) -> usize
     requires { (length claims.now ≤ most_records) × (right_territories table.now ≡ true) × (t ≤ largest_tolerance) }
     ensures { result ≡ over_in table.now t claims.now }

@@ -6,7 +6,7 @@ use mathlib.Core.Path.{◌≡◌, refl, sym, ap, ◌∙◌}
 use mathlib.Core.Bool.{Bool, true, false, cond, not, ◌&&◌, ◌||◌, true≢false}
 use mathlib.Core.List.{List, [], ◌∷◌, ◌++◌, append_assoc}
 use lib.Dec.{eqb, ltb}
-use lib.ListN.{length, get_or, set, length-set, take, drop, length-append, length-drop, get_or-eq_default, replicate, length-replicate, get_or-replicate}
+use lib.ListN.{length, get_or, set, take, drop, length-append, length-drop, get_or-eq_default, replicate, length-replicate, get_or-replicate}
 use lib.Seq.{length-take-le, get_or-set_same, get_or-set_other}
 use borrow.Author.Tests.{eqb-true, eqb-false, ne_eqb, ltb-true, ltb-false, lt-ltb, le-ltb}
 use Rattle.format.specs.Bytes.{Bytes, same_bytes}
@@ -83,7 +83,6 @@ code-some table j h =
 -- ---- all territories before position j have the entry, those from there on have not
 
 pub record Counting (table : Bytes) (e : Claim) (last : ℕ) (old : List Taken) (j : ℕ) (work : List Taken) : Type 0 where
-  pub long : length work ≡ length old
   pub with_it : (i : ℕ) → i < j
       → get_or work i nothing ≡ taken_with (speaks (territories_in table) i e) (not (eqb e.party last)) (rights (λ r. gives r e)) (get_or old i nothing)
   pub left : (i : ℕ) → j ≤ i → get_or work i nothing ≡ get_or old i nothing
@@ -91,7 +90,6 @@ pub record Counting (table : Bytes) (e : Claim) (last : ℕ) (old : List Taken) 
 pub counting-none : (table : Bytes) (e : Claim) (last : ℕ) (old : List Taken) → Counting table e last old 0 old
 counting-none table e last old =
     record {
-      long = refl;
       with_it = λ i h. absurd (omega arith);
       left = λ i h. refl;
     }
@@ -143,15 +141,14 @@ module _ (table : Bytes) (right : RightTable table) (e : Claim) where
       counting-small es counted few h = rw (c.left j (omega arith)) (small-at table es last old counted j h few)
 
       -- the entry is some party's
-      pub counting-on : (s : Bool) (given : Rights) → s ≡ speaks T j e → given ≡ rights (λ r. gives r e) → j < length T → length T ≤ length work
+      pub counting-on : (s : Bool) (given : Rights) → s ≡ speaks T j e → given ≡ rights (λ r. gives r e) → j < length work
           → (x : Taken) → x ≡ taken_with s (not (eqb e.party last)) given (get_or work j nothing) → Counting table e last old (j + 1) (set work j x)
-      counting-on s given f g h room x is =
+      counting-on s given f g room x is =
           record {
-            long = length-set work j x ∙ c.long;
             with_it =
                 λ i l.
                 by_cases (eqb i j)
-                (λ z. rw (eqb-true i j z, get_or-set_same work j x nothing (omega (arith, h, room))) (is ∙ rw (f, g, c.left j (omega arith)) refl))
+                (λ z. rw (eqb-true i j z, get_or-set_same work j x nothing room) (is ∙ rw (f, g, c.left j (omega arith)) refl))
                 (λ z. let n = eqb-false i j z in get_or-set_other work j i x nothing n ∙ c.with_it i (omega (arith, l, n)));
             left = λ i l. get_or-set_other work j i x nothing (λ z. omega (arith, z, l)) ∙ c.left i (omega arith);
           }
@@ -179,11 +176,11 @@ module _ (table : Bytes) (right : RightTable table) (e : Claim) where
           ap (λ (y : Taken). of_right y.before r) (c.with_it i h)
           ∙ rw (its, of-plus x.before (cond b x.current none) r, of-cond b x.current none r, of-rights (λ _. 0) r) refl
 
-      pub counting-all : n ≡ length T → ((r : Right) → gives r e ≤ 2 ^ 32)
+      pub counting-all : length work ≡ length old → n ≡ length T → ((r : Right) → gives r e ≤ 2 ^ 32)
           → (es : List Claim) → Counted table es last old → Counted table (es ++ e ∷ []) e.party work
-      counting-all is small es counted =
+      counting-all long is small es counted =
           record {
-            long = c.long ∙ counted.long;
+            long = long ∙ counted.long;
             stands =
                 λ j h r.
                 let before : j < n = omega (arith, is, h) in

@@ -1,10 +1,12 @@
 -- `claims::count` meets its contract: the territories before position j have the entry.
-use Prim.Native.Nat.{ℕ, ◌≤◌}
+use Prim.Native.Nat.{ℕ, ◌<◌, ◌≤◌}
 use mathlib.Core.Path.{◌≡◌}
 use mathlib.Core.List.{List}
 use native.Mathlib.Omega.{arith}
 use borrow.Author.Tests.{eq-eqb, ne_eqb}
+use lib.ListN.{length}
 use Rattle.format.specs.Bytes.{Bytes}
+use Rattle.rules.specs.Territories.{territories_in}
 use Rattle.rules.proofs.Names.{right-table}
 use Rattle.territories.proofs.Laws.{within}
 use Rattle.claims.specs.declared.Claim.{Claim}
@@ -17,7 +19,7 @@ returns-then-claim-eq0 c es counted =
     counted-ignored c.args.table.now es c.args.last c.args.work.now c.args.claim (eq-eqb _ _ c.if-claim-eq0.true) counted
 
 pub loop-j-init : goal.loop-j-init
-loop-j-init c = (omega arith, counting-none _ _ _ _)
+loop-j-init c = counting-none _ _ _ _
 
 pub group-group-requires : goal.group-group-requires
 group-group-requires c =
@@ -29,13 +31,13 @@ group_spoken-requires c =
     let l = c.loop-j in
     let n = c.count-n.ensures in
     let few = (right-table c.args.table.now c.requires.3).few in
-    omega (arith, c.loop-j-test.true, n, few, l.invariant.1.long, c.requires.1.long)
+    omega (arith, c.loop-j-test.true, n, few, l.auto.work, c.requires.1.long)
 
 pub bounds-work-j : goal.bounds-work-j
 bounds-work-j c =
     let l = c.loop-j in
     let few = (right-table c.args.table.now c.requires.3).few in
-    omega (arith, c.loop-j-test.true, c.count-n.ensures, few, l.invariant.1.long, c.requires.1.long)
+    omega (arith, c.loop-j-test.true, c.count-n.ensures, few, l.auto.work, c.requires.1.long)
 
 pub offset_bounds-work-j : goal.offset_bounds-work-j
 offset_bounds-work-j c =
@@ -47,7 +49,7 @@ with-requires c =
     let l = c.loop-j in
     let n = c.count-n.ensures in
     let right = right-table c.args.table.now c.requires.3 in
-    counting-small c.args.table.now right c.args.claim c.args.last c.args.work.now l.j l.work l.invariant.1
+    counting-small c.args.table.now right c.args.claim c.args.last c.args.work.now l.j l.work l.invariant
     c.requires.0 c.requires.1 (omega (arith, c.requires.2)) (omega (arith, c.loop-j-test.true, n))
 
 pub loop-j-preserved : goal.loop-j-preserved
@@ -55,12 +57,11 @@ loop-j-preserved c =
     let l = c.loop-j in
     let n = c.count-n.ensures in
     let right = right-table c.args.table.now c.requires.3 in
-    let so-far = spoken-before c.args.table.now right c.args.claim c.args.last c.args.work.now l.j l.work l.invariant.1 in (
-      omega (arith, c.loop-j-test.true),
-      counting-on c.args.table.now right c.args.claim c.args.last c.args.work.now l.j l.work l.invariant.1 _ _
-          (rw c.group_spoken.ensures (speaks-at c.args.table.now right c.args.claim l.work l.j _ (omega (arith, c.loop-j-test.true, n)) c.group-group.ensures.value so-far))
-          c.given-given.ensures.value (omega (arith, c.loop-j-test.true, n)) (omega (arith, l.invariant.1.long, c.requires.1.long, right.few)) _ c.with.ensures,
-    )
+    let here : l.j < length (territories_in c.args.table.now) = omega (arith, c.loop-j-test.true, n) in
+    let so-far = spoken-before c.args.table.now right c.args.claim c.args.last c.args.work.now l.j l.work l.invariant in
+    counting-on c.args.table.now right c.args.claim c.args.last c.args.work.now l.j l.work l.invariant _ _
+    (rw c.group_spoken.ensures (speaks-at c.args.table.now right c.args.claim l.work l.j _ here c.group-group.ensures.value so-far))
+    c.given-given.ensures.value (omega (arith, here, l.auto.work, c.requires.1.long, right.few)) _ c.with.ensures
 
 -- at the end
 counted-at : {table : Bytes} {e : Claim} {last j n : ℕ} {old work : List Taken} → j ≤ n → n ≤ j → Counting table e last old j work
@@ -73,6 +74,6 @@ returns c es counted =
     let right = right-table c.args.table.now c.requires.3 in
     let some = ne_eqb _ 0 c.if-claim-eq0.false in
     counting-all c.args.table.now right c.args.claim c.args.last c.args.work.now l.work _
-    (counted-at l.invariant.0 c.loop-j-test.false l.invariant.1) some c.count-n.ensures
+    (counted-at l.auto.j-end c.loop-j-test.false l.invariant) some l.auto.work c.count-n.ensures
     (small-each c.args.table.now right c.args.claim c.args.last c.args.work.now _ c.given-given.ensures.value c.given-given.ensures.at_most)
     es counted

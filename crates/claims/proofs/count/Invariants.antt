@@ -1,6 +1,5 @@
-use Prim.Native.Nat.{◌≤◌}
 use Rattle.claims.proofs.Counting.{Counting}
 use Rattle.claims.proofs.count.Given as goal
 
 abbrev pub invariant-loop-j : goal.invariant-loop-j
-invariant-loop-j l = (l.j ≤ l.n) × Counting l.table l.claim l.last l.initial.work l.j l.work
+invariant-loop-j l = Counting l.table l.claim l.last l.initial.work l.j l.work

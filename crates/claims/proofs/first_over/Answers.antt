@@ -14,7 +14,7 @@ pub hold_all-requires : goal.hold_all-requires
 hold_all-requires c = (c.requires.0, refl)
 
 pub loop-j-init : goal.loop-j-init
-loop-j-init c = (omega arith, λ es last counted. over-start _ _ es _ c.count-n.ensures)
+loop-j-init c es last counted = over-start _ _ es _ c.count-n.ensures
 
 pub bounds-held-j : goal.bounds-held-j
 bounds-held-j c =
@@ -46,20 +46,17 @@ returns-then-held-j c es last counted =
     let inside = c.loop-j-test.true in
     let over = tested c.args.table.now es last c.args.work.now counted c.args.t l.j
     (omega (arith, inside, c.count-n.ensures)) c.hold_all.new.held _ _ few marked c.is_over.ensures c.if-held-j.true in
-    sym (first-here (is_over_at (territories_in c.args.table.now) c.args.t es) l.j (c.count-n.result - l.j) (omega (arith, inside)) over) ∙ l.invariant.1 es last counted
+    sym (first-here (is_over_at (territories_in c.args.table.now) c.args.t es) l.j (c.count-n.result - l.j) (omega (arith, inside)) over) ∙ l.invariant es last counted
 
 pub loop-j-preserved : goal.loop-j-preserved
-loop-j-preserved c =
+loop-j-preserved c es last counted =
     let l = c.loop-j in
     let few = (right-table c.args.table.now c.requires.0).few in
     let marked = c.hold_all.ensures in
-    let inside = c.loop-j-test.true in (
-      omega (arith, inside),
-      λ es last counted.
-          let over = tested c.args.table.now es last c.args.work.now counted c.args.t l.j
-          (omega (arith, inside, c.count-n.ensures)) c.hold_all.new.held _ _ few marked c.is_over.ensures c.if-held-j.false in
-          first_on (is_over_at (territories_in c.args.table.now) c.args.t es) l.j _ inside over ∙ l.invariant.1 es last counted,
-    )
+    let inside = c.loop-j-test.true in
+    let over = tested c.args.table.now es last c.args.work.now counted c.args.t l.j
+    (omega (arith, inside, c.count-n.ensures)) c.hold_all.new.held _ _ few marked c.is_over.ensures c.if-held-j.false in
+    first_on (is_over_at (territories_in c.args.table.now) c.args.t es) l.j _ inside over ∙ l.invariant es last counted
 
 -- past the last
 ended : (p : ℕ → Bool) (j n : ℕ) → j ≤ n → n ≤ j → n ≡ first_from p j (n - j)
@@ -68,4 +65,4 @@ ended p j n h l = let z : n - j ≡ 0 = omega arith in rw z (omega arith)
 pub returns : goal.returns
 returns c es last counted =
     let l = c.loop-j in
-    ended (is_over_at (territories_in c.args.table.now) c.args.t es) l.j _ l.invariant.0 c.loop-j-test.false ∙ l.invariant.1 es last counted
+    ended (is_over_at (territories_in c.args.table.now) c.args.t es) l.j _ l.auto.j-end c.loop-j-test.false ∙ l.invariant es last counted

@@ -1,4 +1,4 @@
-use Prim.Native.Nat.{ℕ, ◌-◌, ◌≤◌}
+use Prim.Native.Nat.{ℕ, ◌-◌}
 use mathlib.Core.Path.{◌≡◌}
 use mathlib.Core.List.{List}
 use Rattle.rules.specs.Territories.{territories_in}
@@ -9,5 +9,5 @@ use Rattle.claims.proofs.first_over.Given as goal
 
 abbrev pub invariant-loop-j : goal.invariant-loop-j
 invariant-loop-j l =
-    (l.j ≤ l.n) × ((es : List Claim) (last : ℕ) → Counted l.table es last l.work
-    → first_from (is_over_at (territories_in l.table) l.t es) l.j (l.n - l.j) ≡ over_in l.table l.t es)
+    (es : List Claim) (last : ℕ) → Counted l.table es last l.work
+    → first_from (is_over_at (territories_in l.table) l.t es) l.j (l.n - l.j) ≡ over_in l.table l.t es
