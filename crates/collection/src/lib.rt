@@ -166,7 +166,7 @@ pub struct Details {
 
 // One detail on, whose row this is.
 fn pass_detail(file: &[u8], row: Row, d: Details, places: Places, findings: &mut [u8]) -> Details
-    requires file_len_bound { (length file.now ≤ most_bytes) × Here file.now d.at head (rest_at file.now d.at)
+    requires here { (length file.now ≤ most_bytes) × Here file.now d.at head (rest_at file.now d.at)
         × (row ≡ row_for (take 3 (drop d.at file.now))) × (row.class ≡ Detail) × (d.index < most_records) }
     requires room { 8 * (d.index + 1) ≤ length findings.old }
     requires known { (ds : List Bytes) × Known (territories_in places.table.now) ds d.tally × (length ds < most_records) }

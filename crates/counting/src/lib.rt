@@ -6,7 +6,7 @@ ghost use Rattle.std.specs.Prelude.{◌≡◌, ◌+◌, ◌≤◌, length};
 ghost use Rattle.format.specs.Table.{hdr, grh, grt, head, unknown};
 ghost use Rattle.format.specs.Cwr22.{cwr22};
 ghost use Rattle.format.specs.Checks.{cls};
-ghost use Rattle.format.specs.Structure.{most_bytes, most_records, first_record};
+ghost use Rattle.format.specs.Structure.{most_records, first_record};
 ghost use Rattle.format.specs.Tree.{groups_in};
 ghost use Rattle.rules.specs.Tables.{Tables};
 ghost use Rattle.rules.specs.Sheet.{sheet_tolerance};
@@ -14,7 +14,7 @@ ghost use Rattle.tables.specs.Index.{Indexed};
 ghost use Rattle.structure.specs.Cursor.{Here};
 ghost use Rattle.figures.specs.Counted.{whole_of, UpTo, WithinAll, FiguresOf};
 ghost use Rattle.transactions.specs.Purposes.{Begun};
-ghost use Rattle.transactions.specs.Walk.{rest_at, front_of, Prepared, PastTransaction};
+ghost use Rattle.transactions.specs.Walk.{rest_at, front_of, PastTransaction};
 ghost use Rattle.files.specs.Levels.{transactions_of, group_of, PastTransactions, PastGroup, PastGroups};
 ghost use Rattle.counting.specs.Levels.{transactions_among, MissingOn, CountedTransaction, CountedTransactions, CountedGroup, CountedGroups};
 
@@ -22,8 +22,7 @@ use figures::{Counters, Figures, Missing};
 use files::Next;
 use kinds::Class;
 use totals::Rights;
-use transactions::{Passed, Purpose};
-use values::Tolerance;
+use transactions::{Lent, Passed, Purpose};
 
 // ---- a transaction
 
@@ -36,39 +35,35 @@ pub struct Counted {
 
 // One transaction, whose header stands here and is that record of the file, in a group whose GRH names that type.
 fn count_transaction(
-    file: &[u8],
+    lent: &Lent,
     at: usize,
     index: usize,
     named: &[u8],
-    t: Tolerance,
-    slots: &tables::Slots,
     counters: &mut Counters,
 ) -> Counted
-    requires file_len_bound { (length file.now ≤ most_bytes) × Here file.now at head (rest_at file.now at)
-        × (cls cwr22 (first_record (rest_at file.now at)) ≡ head) × (index + length (rest_at file.now at) ≤ most_records)
+    requires { Here lent.now.file.now at head (rest_at lent.now.file.now at)
+        × (cls cwr22 (first_record (rest_at lent.now.file.now at)) ≡ head) × (index + length (rest_at lent.now.file.now at) ≤ most_records)
         × Begun index counters.old.findings counters.old.levels }
-    requires prepared { Prepared slots.now }
-    ensures past_transaction { PastTransaction named.now file.now (index + length (rest_at file.now at))
-        (rest_at file.now at) result.passed }
-    ensures total_value { (result.total ≡ whole_of (front_of (rest_at file.now at)))
-        × UpTo (length (front_of (rest_at file.now at)).details) result.total }
-    ensures counted_transaction { (tables : Tables) → Indexed tables slots.now
-        → CountedTransaction tables t named.now index result.passed.index (front_of (rest_at file.now at))
+    ensures past_transaction { PastTransaction named.now lent.now.file.now (index + length (rest_at lent.now.file.now at))
+        (rest_at lent.now.file.now at) result.passed }
+    ensures total_value { (result.total ≡ whole_of (front_of (rest_at lent.now.file.now at)))
+        × UpTo (length (front_of (rest_at lent.now.file.now at)).details) result.total }
+    ensures counted_transaction { (tables : Tables) → Indexed tables lent.now.slots.now
+        → CountedTransaction tables lent.now.t named.now index result.passed.index (front_of (rest_at lent.now.file.now at))
         counters.old.findings counters.old.levels counters.new.findings counters.new.levels }
 {
     let before = counters.levels;
     let d = transactions::judge_details(
-        file,
+        lent,
         at + kinds::HEADER_LENGTH as usize + 2,
         index + 1,
-        slots,
         Purpose::Count,
         &mut [],
         &mut [],
         counters,
     );
     let w = d.walk;
-    let h = transactions::judge_header(file, at, named, t, slots, w.tally, d.links);
+    let h = transactions::judge_header(lent, at, named, w.tally, d.links);
     counters.count(h.set, h.level);
     counters.settle_transaction(h.rejects | d.rejects, w.index - index, before);
     Counted {
@@ -94,23 +89,20 @@ pub struct Run {
 // The transactions of a group, after its GRH, which names that type. The loop is that of a check: the two are no one generic, which would
 // take the step as a parameter, and what it has done as ghost members and their laws, for the five lines that move on.
 fn count_transactions(
-    file: &[u8],
+    lent: &Lent,
     start: usize,
     first: usize,
     named: &[u8],
-    t: Tolerance,
-    slots: &tables::Slots,
     missing: Missing,
     counters: &mut Counters,
 ) -> Run
-    requires file_len_bound { (length file.now ≤ most_bytes) × Here file.now start grh (rest_at file.now start)
-        × (first + length (rest_at file.now start) ≤ most_records) × Begun first counters.old.findings counters.old.levels × WithinAll first missing }
-    requires prepared { Prepared slots.now }
-    ensures past_transactions { PastTransactions named.now file.now (first + length (rest_at file.now start))
-        (rest_at file.now start) result.passed }
-    ensures missing_on { MissingOn first result.passed.index (transactions_of (rest_at file.now start)) missing result.missing }
-    ensures counted_transactions { (tables : Tables) → Indexed tables slots.now
-        → CountedTransactions tables t named.now first result.passed.index (transactions_of (rest_at file.now start))
+    requires { Here lent.now.file.now start grh (rest_at lent.now.file.now start)
+        × (first + length (rest_at lent.now.file.now start) ≤ most_records) × Begun first counters.old.findings counters.old.levels × WithinAll first missing }
+    ensures past_transactions { PastTransactions named.now lent.now.file.now (first + length (rest_at lent.now.file.now start))
+        (rest_at lent.now.file.now start) result.passed }
+    ensures missing_on { MissingOn first result.passed.index (transactions_of (rest_at lent.now.file.now start)) missing result.missing }
+    ensures counted_transactions { (tables : Tables) → Indexed tables lent.now.slots.now
+        → CountedTransactions tables lent.now.t named.now first result.passed.index (transactions_of (rest_at lent.now.file.now start))
         counters.old.findings counters.old.levels counters.new.findings counters.new.levels }
 {
     let mut p = Passed {
@@ -121,7 +113,7 @@ fn count_transactions(
     };
     let mut m = missing;
     while let Class::Head = p.class {
-        let one = count_transaction(file, p.at, p.index, named, t, slots, counters);
+        let one = count_transaction(lent, p.at, p.index, named, counters);
         let q = one.passed;
         m = m.with(one.total);
         p = Passed {
@@ -146,29 +138,26 @@ pub struct Section {
 
 // One group, whose GRH stands here and is that record of the file.
 fn count_group(
-    file: &[u8],
+    lent: &Lent,
     at: usize,
     index: usize,
-    t: Tolerance,
-    slots: &tables::Slots,
     missing: Missing,
     counters: &mut Counters,
 ) -> Section
-    requires file_len_bound { (length file.now ≤ most_bytes) × Here file.now at grt (rest_at file.now at)
-        × (cls cwr22 (first_record (rest_at file.now at)) ≡ grh) × (index + length (rest_at file.now at) ≤ most_records)
+    requires { Here lent.now.file.now at grt (rest_at lent.now.file.now at)
+        × (cls cwr22 (first_record (rest_at lent.now.file.now at)) ≡ grh) × (index + length (rest_at lent.now.file.now at) ≤ most_records)
         × Begun index counters.old.findings counters.old.levels × WithinAll index missing }
-    requires prepared { Prepared slots.now }
-    ensures past_group { PastGroup file.now (index + length (rest_at file.now at)) (rest_at file.now at) result.next }
-    ensures missing_on { MissingOn index result.next.index (group_of (rest_at file.now at)).transactions missing result.missing }
-    ensures counted_group { (tables : Tables) → Indexed tables slots.now
-        → CountedGroup tables t index result.next.index (group_of (rest_at file.now at))
+    ensures past_group { PastGroup lent.now.file.now (index + length (rest_at lent.now.file.now at)) (rest_at lent.now.file.now at) result.next }
+    ensures missing_on { MissingOn index result.next.index (group_of (rest_at lent.now.file.now at)).transactions missing result.missing }
+    ensures counted_group { (tables : Tables) → Indexed tables lent.now.slots.now
+        → CountedGroup tables lent.now.t index result.next.index (group_of (rest_at lent.now.file.now at))
         counters.old.findings counters.old.levels counters.new.findings counters.new.levels }
 {
     let before = counters.levels;
     let end = at + kinds::GRH_LENGTH as usize;
-    let opening = &file[at..end];
+    let opening = &lent.file[at..end];
     let named = text::field(opening, 4, 3);
-    let run = count_transactions(file, end + 2, index + 1, named, t, slots, missing, counters);
+    let run = count_transactions(lent, end + 2, index + 1, named, missing, counters);
     let p = run.passed;
     let next = p.index + 1;
     counters.settle_group(p.stray, next - index, before);
@@ -185,21 +174,18 @@ fn count_group(
 
 // The groups that stand here, up to TRL.
 fn count_groups(
-    file: &[u8],
+    lent: &Lent,
     start: usize,
     first: usize,
-    t: Tolerance,
-    slots: &tables::Slots,
     missing: Missing,
     counters: &mut Counters,
 ) -> Section
-    requires file_len_bound { (length file.now ≤ most_bytes) × Here file.now start hdr (rest_at file.now start)
-        × (first + length (rest_at file.now start) ≤ most_records) × Begun first counters.old.findings counters.old.levels × WithinAll first missing }
-    requires prepared { Prepared slots.now }
-    ensures past_groups { PastGroups file.now (first + length (rest_at file.now start)) result.next }
-    ensures missing_on { MissingOn first result.next.index (transactions_among (groups_in cwr22 (rest_at file.now start))) missing result.missing }
-    ensures counted_groups { (tables : Tables) → Indexed tables slots.now
-        → CountedGroups tables t first result.next.index (groups_in cwr22 (rest_at file.now start))
+    requires { Here lent.now.file.now start hdr (rest_at lent.now.file.now start)
+        × (first + length (rest_at lent.now.file.now start) ≤ most_records) × Begun first counters.old.findings counters.old.levels × WithinAll first missing }
+    ensures past_groups { PastGroups lent.now.file.now (first + length (rest_at lent.now.file.now start)) result.next }
+    ensures missing_on { MissingOn first result.next.index (transactions_among (groups_in cwr22 (rest_at lent.now.file.now start))) missing result.missing }
+    ensures counted_groups { (tables : Tables) → Indexed tables lent.now.slots.now
+        → CountedGroups tables lent.now.t first result.next.index (groups_in cwr22 (rest_at lent.now.file.now start))
         counters.old.findings counters.old.levels counters.new.findings counters.new.levels }
 {
     let mut n = Next {
@@ -207,8 +193,8 @@ fn count_groups(
         index: first,
     };
     let mut m = missing;
-    'groups: while files::is_group(file, n.at) {
-        let one = count_group(file, n.at, n.index, t, slots, m, counters);
+    'groups: while files::is_group(lent.file, n.at) {
+        let one = count_group(lent, n.at, n.index, m, counters);
         n = one.next;
         m = one.missing;
     }
@@ -219,21 +205,18 @@ fn count_groups(
 }
 
 // All records of a file.
-pub fn count_file(file: &[u8], t: Tolerance, slots: &tables::Slots) -> Figures
-    requires file_len_bound { (length file.now ≤ most_bytes) × Here file.now 0 unknown (rest_at file.now 0)
-        × (length (rest_at file.now 0) ≤ most_records) }
-    requires prepared { Prepared slots.now }
+pub fn count_file(lent: &Lent) -> Figures
+    requires { Here lent.now.file.now 0 unknown (rest_at lent.now.file.now 0)
+        × (length (rest_at lent.now.file.now 0) ≤ most_records) }
     ensures within_all { WithinAll most_records result.missing }
-    ensures figures_of { (tables : Tables) → Indexed tables slots.now → t ≡ sheet_tolerance
-        → FiguresOf (record { tables = tables; file = file.now }) result }
+    ensures figures_of { (tables : Tables) → Indexed tables lent.now.slots.now → lent.now.t ≡ sheet_tolerance
+        → FiguresOf (record { tables = tables; file = lent.now.file.now }) result }
 {
     let mut counters = Counters::none();
     let all = count_groups(
-        file,
+        lent,
         kinds::HDR_LENGTH as usize + 2,
         1,
-        t,
-        slots,
         Missing::none(),
         &mut counters,
     );

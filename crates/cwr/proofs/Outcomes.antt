@@ -6,7 +6,7 @@ use mathlib.Core.List.{◌++◌}
 use lib.ListN.{length, drop}
 use Rattle.format.specs.Bytes.{Bytes}
 use Rattle.format.specs.Structure.{Answer, refused, passed}
-use Rattle.format.specs.Lent.{left_in, splice}
+use Rattle.format.specs.Lent.{splice}
 use Rattle.rules.specs.Tables.{Tables}
 use Rattle.rules.specs.Verdicts.{finding_bytes, file_findings, file_verdicts}
 use Rattle.rules.specs.Outcome.{Outcome, answer, content, check}

@@ -26,13 +26,14 @@ ghost use Rattle.cwr.specs.Promises.{Checked, FirstRejected, SheetTaken, Numbere
 use answers::{Answer, Refusal};
 use sheet::{Sheet, Taken};
 use tables::Tables;
+use transactions::Lent;
 use values::{Share, Tolerance};
 
 // ---- a search through a file that passed, with its tables
 
 // The tables are indexed once, in slots on the stack.
 fn seek(file: &[u8], tables: Tables, tolerance: Tolerance) -> Option<usize>
-    requires file_len_bound { (length file.now ≤ most_bytes) × Here file.now 0 unknown (rest_at file.now 0)
+    requires here { (length file.now ≤ most_bytes) × Here file.now 0 unknown (rest_at file.now 0)
         × (length (rest_at file.now 0) ≤ most_records) }
     requires right_tables { (right_table language_size tables.languages.now ≡ true) × (right_table society_size tables.societies.now ≡ true)
         × (right_table category_size tables.categories.now ≡ true) }
@@ -41,7 +42,13 @@ fn seek(file: &[u8], tables: Tables, tolerance: Tolerance) -> Option<usize>
 {
     let mut slots = [0u32; tables::SLOTS];
     tables.index(&mut slots);
-    search::search(file, tolerance, &slots)
+    let lent = Lent {
+        file,
+        tables,
+        slots: &slots,
+        t: tolerance,
+    };
+    search::search(&lent)
 }
 
 // ---- the calls

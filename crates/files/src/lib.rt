@@ -12,13 +12,13 @@ ghost use Rattle.rules.specs.Tables.{Tables, language_size, society_size, catego
 ghost use Rattle.tables.specs.Index.{Indexed};
 ghost use Rattle.tables.specs.Lent.{lent_in};
 ghost use Rattle.structure.specs.Cursor.{Here};
-ghost use Rattle.transactions.specs.Walk.{rest_at, Prepared, Room, Filled};
+ghost use Rattle.transactions.specs.Walk.{rest_at, Room, Filled};
 ghost use Rattle.files.specs.Levels.{transactions_of, group_of, PastTransactions, PastGroup, PastGroups};
 ghost use Rattle.files.specs.Levels.{FilledTransactions, FilledGroup, FilledGroups, WrittenFile};
 
 use findings::GR;
 use kinds::Class;
-use transactions::Passed;
+use transactions::{Lent, Passed};
 use values::Tolerance;
 
 // Before a record of that number, which begins at that byte.
@@ -40,22 +40,19 @@ fn settle_control(index: usize, verdicts: &mut [u8], findings: &mut [u8])
 
 // The transactions of a group, after its GRH, which names that type.
 fn judge_transactions(
-    file: &[u8],
+    lent: &Lent,
     start: usize,
     first: usize,
     named: &[u8],
-    t: Tolerance,
-    slots: &tables::Slots,
     verdicts: &mut [u8],
     findings: &mut [u8],
 ) -> Passed
-    requires file_len_bound { (length file.now ≤ most_bytes) × Here file.now start grh (rest_at file.now start)
-        × Room (first + length (rest_at file.now start)) (length verdicts.old) (length findings.old) }
-    requires prepared { Prepared slots.now }
-    ensures past_transactions { PastTransactions named.now file.now (first + length (rest_at file.now start))
-        (rest_at file.now start) result }
-    ensures filled_transactions { (tables : Tables) → Indexed tables slots.now
-        → FilledTransactions tables t named.now first result.index (transactions_of (rest_at file.now start))
+    requires { Here lent.now.file.now start grh (rest_at lent.now.file.now start)
+        × Room (first + length (rest_at lent.now.file.now start)) (length verdicts.old) (length findings.old) }
+    ensures past_transactions { PastTransactions named.now lent.now.file.now (first + length (rest_at lent.now.file.now start))
+        (rest_at lent.now.file.now start) result }
+    ensures filled_transactions { (tables : Tables) → Indexed tables lent.now.slots.now
+        → FilledTransactions tables lent.now.t named.now first result.index (transactions_of (rest_at lent.now.file.now start))
         verdicts.old findings.old verdicts.new findings.new }
 {
     let mut p = Passed {
@@ -65,9 +62,7 @@ fn judge_transactions(
         stray: false,
     };
     while let Class::Head = p.class {
-        let q = transactions::judge_transaction(
-            file, p.at, p.index, named, t, slots, verdicts, findings,
-        );
+        let q = transactions::judge_transaction(lent, p.at, p.index, named, verdicts, findings);
         p = Passed {
             at: q.at,
             index: q.index,
@@ -80,37 +75,25 @@ fn judge_transactions(
 
 // One group, whose GRH stands here and is that record of the file.
 fn judge_group(
-    file: &[u8],
+    lent: &Lent,
     at: usize,
     index: usize,
-    t: Tolerance,
-    slots: &tables::Slots,
     verdicts: &mut [u8],
     findings: &mut [u8],
 ) -> Next
-    requires file_len_bound { (length file.now ≤ most_bytes) × Here file.now at grt (rest_at file.now at)
-        × (cls cwr22 (first_record (rest_at file.now at)) ≡ grh)
-        × Room (index + length (rest_at file.now at)) (length verdicts.old) (length findings.old) }
-    requires prepared { Prepared slots.now }
-    ensures past_group { PastGroup file.now (index + length (rest_at file.now at)) (rest_at file.now at) result }
-    ensures filled_group { (tables : Tables) → Indexed tables slots.now
-        → FilledGroup tables t index result.index (group_of (rest_at file.now at))
+    requires { Here lent.now.file.now at grt (rest_at lent.now.file.now at)
+        × (cls cwr22 (first_record (rest_at lent.now.file.now at)) ≡ grh)
+        × Room (index + length (rest_at lent.now.file.now at)) (length verdicts.old) (length findings.old) }
+    ensures past_group { PastGroup lent.now.file.now (index + length (rest_at lent.now.file.now at)) (rest_at lent.now.file.now at) result }
+    ensures filled_group { (tables : Tables) → Indexed tables lent.now.slots.now
+        → FilledGroup tables lent.now.t index result.index (group_of (rest_at lent.now.file.now at))
         verdicts.old findings.old verdicts.new findings.new }
 {
     let end = at + kinds::GRH_LENGTH as usize;
-    let opening = &file[at..end];
+    let opening = &lent.file[at..end];
     let named = text::field(opening, 4, 3);
     settle_control(index, verdicts, findings);
-    let p = judge_transactions(
-        file,
-        end + 2,
-        index + 1,
-        named,
-        t,
-        slots,
-        verdicts,
-        findings,
-    );
+    let p = judge_transactions(lent, end + 2, index + 1, named, verdicts, findings);
     let last = p.index;
     settle_control(last, verdicts, findings);
     let e = last + 1;
@@ -132,75 +115,63 @@ pub fn is_group(file: &[u8], at: usize) -> bool
 
 // The groups that stand here, up to TRL.
 fn judge_groups(
-    file: &[u8],
+    lent: &Lent,
     start: usize,
     first: usize,
-    t: Tolerance,
-    slots: &tables::Slots,
     verdicts: &mut [u8],
     findings: &mut [u8],
 ) -> Next
-    requires file_len_bound { (length file.now ≤ most_bytes) × Here file.now start hdr (rest_at file.now start)
-        × Room (first + length (rest_at file.now start)) (length verdicts.old) (length findings.old) }
-    requires prepared { Prepared slots.now }
-    ensures past_groups { PastGroups file.now (first + length (rest_at file.now start)) result }
-    ensures filled_groups { (tables : Tables) → Indexed tables slots.now
-        → FilledGroups tables t first result.index (groups_in cwr22 (rest_at file.now start))
+    requires { Here lent.now.file.now start hdr (rest_at lent.now.file.now start)
+        × Room (first + length (rest_at lent.now.file.now start)) (length verdicts.old) (length findings.old) }
+    ensures past_groups { PastGroups lent.now.file.now (first + length (rest_at lent.now.file.now start)) result }
+    ensures filled_groups { (tables : Tables) → Indexed tables lent.now.slots.now
+        → FilledGroups tables lent.now.t first result.index (groups_in cwr22 (rest_at lent.now.file.now start))
         verdicts.old findings.old verdicts.new findings.new }
 {
     let mut n = Next {
         at: start,
         index: first,
     };
-    'groups: while is_group(file, n.at) {
-        n = judge_group(file, n.at, n.index, t, slots, verdicts, findings);
+    'groups: while is_group(lent.file, n.at) {
+        n = judge_group(lent, n.at, n.index, verdicts, findings);
     }
     n
 }
 
 // All records of a file.
-pub fn judge_file(
-    file: &[u8],
-    t: Tolerance,
-    slots: &tables::Slots,
-    verdicts: &mut [u8],
-    findings: &mut [u8],
-)
-    requires file_len_bound { (length file.now ≤ most_bytes) × Here file.now 0 unknown (rest_at file.now 0)
-        × Room (length (rest_at file.now 0)) (length verdicts.old) (length findings.old) }
-    requires prepared { Prepared slots.now }
-    ensures { (tables : Tables) → Indexed tables slots.now
-        → WrittenFile tables t file.now
+pub fn judge_file(lent: &Lent, verdicts: &mut [u8], findings: &mut [u8])
+    requires { Here lent.now.file.now 0 unknown (rest_at lent.now.file.now 0)
+        × Room (length (rest_at lent.now.file.now 0)) (length verdicts.old) (length findings.old) }
+    ensures { (tables : Tables) → Indexed tables lent.now.slots.now
+        → WrittenFile tables lent.now.t lent.now.file.now
         verdicts.old findings.old verdicts.new findings.new }
 {
     settle_control(0, verdicts, findings);
-    let n = judge_groups(
-        file,
-        kinds::HDR_LENGTH as usize + 2,
-        1,
-        t,
-        slots,
-        verdicts,
-        findings,
-    );
+    let n = judge_groups(lent, kinds::HDR_LENGTH as usize + 2, 1, verdicts, findings);
     settle_control(n.index, verdicts, findings);
 }
 
 // The same with the tables as they are lent: they are indexed once, in slots on the stack.
 pub fn judge(
     file: &[u8],
-    lent: tables::Tables,
+    tables: tables::Tables,
     tolerance: Tolerance,
     verdicts: &mut [u8],
     findings: &mut [u8],
 )
-    requires file_len_bound { (length file.now ≤ most_bytes) × Here file.now 0 unknown (rest_at file.now 0)
+    requires here { (length file.now ≤ most_bytes) × Here file.now 0 unknown (rest_at file.now 0)
         × Room (length (rest_at file.now 0)) (length verdicts.old) (length findings.old) }
-    requires right { (right_table language_size lent.languages.now ≡ true) × (right_table society_size lent.societies.now ≡ true)
-        × (right_table category_size lent.categories.now ≡ true) }
-    ensures { WrittenFile (lent_in lent.entry) tolerance file.now verdicts.old findings.old verdicts.new findings.new }
+    requires right { (right_table language_size tables.languages.now ≡ true) × (right_table society_size tables.societies.now ≡ true)
+        × (right_table category_size tables.categories.now ≡ true) }
+    ensures { WrittenFile (lent_in tables.entry) tolerance file.now verdicts.old findings.old verdicts.new findings.new }
 {
     let mut slots = [0u32; tables::SLOTS];
-    lent.index(&mut slots);
-    judge_file(file, tolerance, &slots, verdicts, findings);
+    tables.index(&mut slots);
+    let lent = Lent {
+        file,
+        tables,
+        slots: &slots,
+        t: tolerance,
+    };
+    judge_file(&lent, verdicts, findings);
 }

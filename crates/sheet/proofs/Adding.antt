@@ -1,11 +1,10 @@
 -- What each ending of taking a file comes to. Assumes nothing.
-use mathlib.Core.Path.{◌≡◌, refl, sym, ap, ◌∙◌}
-use mathlib.Core.Bool.{true, false, false≢true}
+use mathlib.Core.Path.{◌≡◌, refl, ap, ◌∙◌}
+use mathlib.Core.Bool.{true, false}
 use mathlib.Core.List.{[], ◌∷◌}
 use lib.Dec.{leb}
-use Rattle.format.specs.Structure.{Answer, refused, passed}
-use Rattle.rules.specs.Sheet.{Taken, answer_to, is_refused, Sheet, sheet_of, with_sheet, most_files, add}
-use Rattle.answers.specs.Numbers.{is_passed}
+use Rattle.format.specs.Structure.{Answer, refused}
+use Rattle.rules.specs.Sheet.{Taken, answer_to, Sheet, sheet_of, with_sheet, most_files, add}
 
 module _ (s : Sheet) (x : Taken) where
   pub full-so : leb most_files s.files ≡ true → record { answer = refused 12 0; sheet = s } ≡ add s x

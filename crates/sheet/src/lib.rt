@@ -18,6 +18,7 @@ ghost use Rattle.sheet.specs.Told.{told_missed, told_of, added_of};
 use answers::{Answer, Refusal};
 use figures::{Figures, Misses};
 use tables::Tables;
+use transactions::Lent;
 use values::{Share, Tolerance};
 
 // Of a right: the transactions whose total is neither 0 nor the full share.
@@ -113,7 +114,7 @@ impl Missed {
 
 // The tables are indexed once, in slots on the stack.
 fn count(file: &[u8], tables: Tables) -> Figures
-    requires file_len_bound { (length file.now ≤ most_bytes) × Here file.now 0 unknown (records_in (lines file.now))
+    requires here { (length file.now ≤ most_bytes) × Here file.now 0 unknown (records_in (lines file.now))
         × (length (records_in (lines file.now)) ≤ most_records) }
     requires right_tables { (right_table language_size tables.languages.now ≡ true) × (right_table society_size tables.societies.now ≡ true)
         × (right_table category_size tables.categories.now ≡ true) }
@@ -124,13 +125,15 @@ fn count(file: &[u8], tables: Tables) -> Figures
 {
     let mut slots = [0u32; tables::SLOTS];
     tables.index(&mut slots);
-    counting::count_file(
+    let lent = Lent {
         file,
-        Tolerance {
+        tables,
+        slots: &slots,
+        t: Tolerance {
             hundredths: Share::SLACK,
         },
-        &slots,
-    )
+    };
+    counting::count_file(&lent)
 }
 
 // ---- the sheet

@@ -23,17 +23,17 @@ use Rattle.figures.proofs.Records.{few-counts}
 use Rattle.transactions.specs.declared.Purpose.{Purpose}
 use Rattle.transactions.specs.declared.Purpose.TheVariants.{Write, Count, Search}
 use Rattle.transactions.specs.Walk.{Room}
-use Rattle.transactions.specs.Purposes.{is_write, is_count, is_search, Writes, Wrote, Tells, Told, Lent, Done, DoneDetails}
+use Rattle.transactions.specs.Purposes.{is_write, is_count, is_search, Writes, Wrote, Tells, Told, LentFor, Done, DoneDetails}
 use Rattle.transactions.proofs.Entries.{filled_none, filled-then, room-kept}
 use Rattle.transactions.proofs.Laws.{details-append, own-rejects}
 
 -- ---- details
 
-pub done_none : (purpose : Purpose) (tables : Tables) {i m : ℕ} {v g : Bytes} {fs ls : List ℕ} → Lent purpose i m v g fs ls → i ≤ m
+pub done_none : (purpose : Purpose) (tables : Tables) {i m : ℕ} {v g : Bytes} {fs ls : List ℕ} → LentFor purpose i m v g fs ls → i ≤ m
     → DoneDetails purpose tables i i [] false v g fs ls v g fs ls
 done_none purpose tables {i} {m} {v} {g} {fs} {ls} lent le = record { done = none purpose lent; rejects = refl }
   where
-    none : (q : Purpose) → Lent q i m v g fs ls → Done q i i [] v g fs ls v g fs ls
+    none : (q : Purpose) → LentFor q i m v g fs ls → Done q i i [] v g fs ls v g fs ls
     none Write room = (filled_none room le, refl, refl)
     none Count begun = (λ ss us c. rw (append-nil ss, append-nil us) c, omega arith, refl, refl)
     none Search l = (refl, refl, refl, refl)
@@ -98,19 +98,19 @@ module _ {purpose : Purpose} {tables : Tables} {i n : ℕ} {ds : List Bytes} {re
       same Search (a, b, f, u) = (ap length a, ap length b)
 
   -- what is lent has room for one more
-  pub writes : (m : ℕ) → Lent purpose i m v₀ g₀ fs₀ ls₀ → (Room m (length v) (length g) → (n < length v) × (8 * (n + 1) ≤ length g))
+  pub writes : (m : ℕ) → LentFor purpose i m v₀ g₀ fs₀ ls₀ → (Room m (length v) (length g) → (n < length v) × (8 * (n + 1) ≤ length g))
       → Writes (is_write purpose) n v g
   writes m lent room = write purpose before.done lent
     where
-      write : (q : Purpose) → Done q i n (details_from tables [] ds) v₀ g₀ fs₀ ls₀ v g fs ls → Lent q i m v₀ g₀ fs₀ ls₀ → Writes (is_write q) n v g
+      write : (q : Purpose) → Done q i n (details_from tables [] ds) v₀ g₀ fs₀ ls₀ v g fs ls → LentFor q i m v₀ g₀ fs₀ ls₀ → Writes (is_write q) n v g
       write Write (filled, f, u) lent = room (room-kept filled lent)
       write Count done lent = tt
       write Search done lent = tt
 
-  pub tells : (m : ℕ) {level : ℕ} → Lent purpose i m v₀ g₀ fs₀ ls₀ → i + length ds ≤ most_records → level ≤ 4 → Tells (is_count purpose) level fs ls
+  pub tells : (m : ℕ) {level : ℕ} → LentFor purpose i m v₀ g₀ fs₀ ls₀ → i + length ds ≤ most_records → level ≤ 4 → Tells (is_count purpose) level fs ls
   tells m {level} lent few low = tell purpose before.done lent
     where
-      tell : (q : Purpose) → Done q i n (details_from tables [] ds) v₀ g₀ fs₀ ls₀ v g fs ls → Lent q i m v₀ g₀ fs₀ ls₀ → Tells (is_count q) level fs ls
+      tell : (q : Purpose) → Done q i n (details_from tables [] ds) v₀ g₀ fs₀ ls₀ v g fs ls → LentFor q i m v₀ g₀ fs₀ ls₀ → Tells (is_count q) level fs ls
       tell Write done lent = tt
       tell Count (counted, end, a, b) begun =
           let sets = details_from tables [] ds in

@@ -63,10 +63,10 @@ pub record Begun (n : ℕ) (fs ls : List ℕ) : Type 0 where
   pub few_verdicts : length verdicts ≤ n
 
 -- before record n of m
-abbrev pub Lent : Purpose → (n m : ℕ) (v g : Bytes) (fs ls : List ℕ) → Type 0
-Lent Write n m v g fs ls = Room m (length v) (length g)
-Lent Count n m v g fs ls = Begun n fs ls
-Lent Search n m v g fs ls = Unit {0}
+abbrev pub LentFor : Purpose → (n m : ℕ) (v g : Bytes) (fs ls : List ℕ) → Type 0
+LentFor Write n m v g fs ls = Room m (length v) (length g)
+LentFor Count n m v g fs ls = Begun n fs ls
+LentFor Search n m v g fs ls = Unit {0}
 
 -- whatever was counted before, these records are counted too, each with its own verdict
 abbrev pub CountedOn : List (List Bool) → (fs₀ ls₀ fs ls : List ℕ) → Type 0

@@ -7,7 +7,7 @@ ghost use Rattle.format.specs.Bytes.{Bytes, same_bytes};
 ghost use Rattle.format.specs.Table.{head};
 ghost use Rattle.format.specs.Cwr22.{cwr22};
 ghost use Rattle.format.specs.Checks.{cls};
-ghost use Rattle.format.specs.Structure.{most_bytes, most_records, first_record};
+ghost use Rattle.format.specs.Structure.{most_records, first_record};
 ghost use Rattle.format.specs.Tree.{span, is_detail};
 ghost use Rattle.rules.specs.Tables.{Tables};
 ghost use Rattle.rules.specs.Findings.{verdict, TR as Level-as-TR};
@@ -20,8 +20,8 @@ ghost use Rattle.tally.specs.Known.{Known};
 ghost use Rattle.headers.specs.Headed.{Linked, Headed};
 ghost use Rattle.structure.specs.Cursor.{Here};
 ghost use Rattle.transactions.specs.Walk.{Outset, Turned};
-ghost use Rattle.transactions.specs.Walk.{rest_at, front_of, Prepared, Room, PastDetails, PastTransaction, FilledTransaction};
-ghost use Rattle.transactions.specs.Purposes.{is_write, is_count, is_search, Writes, Wrote, Tells, Told, Lent, DoneDetails};
+ghost use Rattle.transactions.specs.Walk.{rest_at, front_of, Room, PastDetails, PastTransaction, FilledTransaction};
+ghost use Rattle.transactions.specs.Purposes.{is_write, is_count, is_search, Writes, Wrote, Tells, Told, LentFor, DoneDetails};
 
 use chains::Chains;
 use edits::Found;
@@ -30,7 +30,10 @@ use findings::TR;
 use headers::{Head, Links};
 use kinds::{Class, Row};
 use tally::Tally;
-use values::Tolerance;
+
+mod lending;
+
+pub use lending::Lent;
 
 // Where a walk over a transaction's details stands: at a byte of the file, before a record of that number; and what is known of the
 // details so far. The tallies of their chains are kept beside it.
@@ -88,18 +91,18 @@ pub fn row_at(hinted: Row, file: &[u8], at: usize) -> Row
 }
 
 // The detail before which the walk stands, and whose row this is.
-fn judge_detail(file: &[u8], row: Row, w: Walk, slots: &tables::Slots, chains: &mut Chains) -> Turn
-    requires file_len_bound { (length file.now ≤ most_bytes) × Here file.now w.at head (rest_at file.now w.at)
-        × (row ≡ row_for (take 3 (drop w.at file.now))) × (row.class ≡ Detail) × (w.index < most_records) }
+fn judge_detail(lent: &Lent, row: Row, w: Walk, chains: &mut Chains) -> Turn
+    requires here { Here lent.now.file.now w.at head (rest_at lent.now.file.now w.at)
+        × (row ≡ row_for (take 3 (drop w.at lent.now.file.now))) × (row.class ≡ Detail) × (w.index < most_records) }
     requires below { Below (2 ^ 60) w.tally.totals × Small chains.old }
     ensures at_value { (result.walk.at ≡ w.at + row.length + 2) × (result.walk.index ≡ w.index + 1) }
-    ensures turned { (tables : Tables) (ds : List Bytes) → Indexed tables slots.now → Known w.tally ds → Tallied chains.old ds
-        → Turned tables ds (first_record (rest_at file.now w.at)) result
-        × Tallied chains.new (ds ++ first_record (rest_at file.now w.at) ∷ []) }
+    ensures turned { (tables : Tables) (ds : List Bytes) → Indexed tables lent.now.slots.now → Known w.tally ds → Tallied chains.old ds
+        → Turned tables ds (first_record (rest_at lent.now.file.now w.at)) result
+        × Tallied chains.new (ds ++ first_record (rest_at lent.now.file.now w.at) ∷ []) }
 {
     let at = w.at;
     let end = at + row.size();
-    let s = details::judge(&file[at..end], row, w.tally, slots, chains);
+    let s = details::judge(&lent.file[at..end], row, w.tally, lent.slots, chains);
     Turn {
         found: s.found,
         walk: Walk {
@@ -162,24 +165,22 @@ fn tell(purpose: Purpose, found: Found, counters: &mut Counters) -> bool
 // The details that stand here, after a header; the first of them is that record of the file. Each is judged and kept, as the purpose is;
 // but where one that rejects the transaction is searched for, none after it.
 pub fn judge_details(
-    file: &[u8],
+    lent: &Lent,
     start: usize,
     first: usize,
-    slots: &tables::Slots,
     purpose: Purpose,
     verdicts: &mut [u8],
     findings: &mut [u8],
     counters: &mut Counters,
 ) -> Details
-    requires file_len_bound { (length file.now ≤ most_bytes) × Here file.now start head (rest_at file.now start)
-        × (first + length (rest_at file.now start) ≤ most_records)
-        × Lent purpose first (first + length (rest_at file.now start)) verdicts.old findings.old
+    requires { Here lent.now.file.now start head (rest_at lent.now.file.now start)
+        × (first + length (rest_at lent.now.file.now start) ≤ most_records)
+        × LentFor purpose first (first + length (rest_at lent.now.file.now start)) verdicts.old findings.old
         counters.old.findings counters.old.levels }
-    requires prepared { Prepared slots.now }
     ensures past_details { (is_search purpose && result.rejects) ≡ false
-        → PastDetails file.now (first + length (rest_at file.now start)) (rest_at file.now start) result }
-    ensures done_details { (tables : Tables) → Indexed tables slots.now
-        → DoneDetails purpose tables first result.walk.index (span (is_detail cwr22) (rest_at file.now start)) result.rejects
+        → PastDetails lent.now.file.now (first + length (rest_at lent.now.file.now start)) (rest_at lent.now.file.now start) result }
+    ensures done_details { (tables : Tables) → Indexed tables lent.now.slots.now
+        → DoneDetails purpose tables first result.walk.index (span (is_detail cwr22) (rest_at lent.now.file.now start)) result.rejects
         verdicts.old findings.old counters.old.findings counters.old.levels
         verdicts.new findings.new counters.new.findings counters.new.levels }
 {
@@ -190,8 +191,8 @@ pub fn judge_details(
     let mut rejects = false;
     loop {
         let at = w.at;
-        let k = hint_at(file, at);
-        let row = row_at(rows[k], file, at);
+        let k = hint_at(lent.file, at);
+        let row = row_at(rows[k], lent.file, at);
         if (row.class != Class::Detail) | (searched & rejects) {
             return Details {
                 walk: w,
@@ -200,7 +201,7 @@ pub fn judge_details(
                 rejects,
             };
         }
-        let s = judge_detail(file, row, w, slots, &mut chains);
+        let s = judge_detail(lent, row, w, &mut chains);
         let found = s.found;
         write(purpose, w.index, found, verdicts, findings);
         rejects |= tell(purpose, found, counters);
@@ -220,26 +221,17 @@ fn links_of(chains: &Chains) -> Links
     }
 }
 
-// The header that stands here, by what is known of its details. named is the type that GRH names, and t the tolerance.
-pub fn judge_header(
-    file: &[u8],
-    at: usize,
-    named: &[u8],
-    t: Tolerance,
-    slots: &tables::Slots,
-    y: Tally,
-    links: Links,
-) -> Head
-    requires file_len_bound { (length file.now ≤ most_bytes) × Here file.now at head (rest_at file.now at)
-        × (cls cwr22 (first_record (rest_at file.now at)) ≡ head) }
+// The header that stands here, by what is known of its details. named is the type that GRH names.
+pub fn judge_header(lent: &Lent, at: usize, named: &[u8], y: Tally, links: Links) -> Head
+    requires here { Here lent.now.file.now at head (rest_at lent.now.file.now at) × (cls cwr22 (first_record (rest_at lent.now.file.now at)) ≡ head) }
     requires below { Below (2 ^ 60) y.totals }
-    ensures { (tables : Tables) (ds : List Bytes) → Indexed tables slots.now → Known y ds → Linked links ds
-        → Headed tables t named.now (record { header = first_record (rest_at file.now at); details = ds }) result }
+    ensures { (tables : Tables) (ds : List Bytes) → Indexed tables lent.now.slots.now → Known y ds → Linked links ds
+        → Headed tables lent.now.t named.now (record { header = first_record (rest_at lent.now.file.now at); details = ds }) result }
 {
     let end = at + kinds::HEADER_LENGTH as usize;
-    let header = &file[at..end];
-    let own = edits::header::judge(header, slots);
-    headers::judge(header, named, own, y, links, t)
+    let header = &lent.file[at..end];
+    let own = edits::header::judge(header, lent.slots);
+    headers::judge(header, named, own, y, links, lent.t)
 }
 
 // After a transaction: where the next record begins, its number and its class; whether the header has finding 0.
@@ -253,38 +245,34 @@ pub struct Passed {
 
 // One transaction, whose header stands here and is that record of the file, in a group whose GRH names that type.
 pub fn judge_transaction(
-    file: &[u8],
+    lent: &Lent,
     at: usize,
     index: usize,
     named: &[u8],
-    t: Tolerance,
-    slots: &tables::Slots,
     verdicts: &mut [u8],
     findings: &mut [u8],
 ) -> Passed
-    requires file_len_bound { (length file.now ≤ most_bytes) × Here file.now at head (rest_at file.now at)
-        × (cls cwr22 (first_record (rest_at file.now at)) ≡ head)
-        × Room (index + length (rest_at file.now at)) (length verdicts.old) (length findings.old) }
-    requires prepared { Prepared slots.now }
-    ensures past_transaction { PastTransaction named.now file.now (index + length (rest_at file.now at))
-        (rest_at file.now at) result }
-    ensures filled_transaction { (tables : Tables) → Indexed tables slots.now
-        → FilledTransaction tables t named.now index result.index (front_of (rest_at file.now at))
+    requires { Here lent.now.file.now at head (rest_at lent.now.file.now at)
+        × (cls cwr22 (first_record (rest_at lent.now.file.now at)) ≡ head)
+        × Room (index + length (rest_at lent.now.file.now at)) (length verdicts.old) (length findings.old) }
+    ensures past_transaction { PastTransaction named.now lent.now.file.now (index + length (rest_at lent.now.file.now at))
+        (rest_at lent.now.file.now at) result }
+    ensures filled_transaction { (tables : Tables) → Indexed tables lent.now.slots.now
+        → FilledTransaction tables lent.now.t named.now index result.index (front_of (rest_at lent.now.file.now at))
         verdicts.old findings.old verdicts.new findings.new }
 {
     let mut none = Counters::none();
     let d = judge_details(
-        file,
+        lent,
         at + kinds::HEADER_LENGTH as usize + 2,
         index + 1,
-        slots,
         Purpose::Write,
         verdicts,
         findings,
         &mut none,
     );
     let w = d.walk;
-    let h = judge_header(file, at, named, t, slots, w.tally, d.links);
+    let h = judge_header(lent, at, named, w.tally, d.links);
     buffers::settle(index, h.set, h.level, verdicts, findings);
     let e = w.index;
     let least = buffers::least(h.rejects | d.rejects, TR);

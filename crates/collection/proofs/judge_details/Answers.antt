@@ -31,7 +31,7 @@ returns-in_default c =
 pub pass_detail-d-requires : goal.pass_detail-d-requires
 pass_detail-d-requires c =
     let inv = c.loop-places.invariant in
-    let (short, begun, few, room) = c.requires in record { file_len_bound = (short, here inv, c.row_at-row.ensures, c.in-Detail.is, omega (arith, few, numbered inv)); room = omega (arith, room, numbered inv, same-long inv); known = (ds inv, known inv, fewer inv few) }
+    let (short, begun, few, room) = c.requires in record { here = (short, here inv, c.row_at-row.ensures, c.in-Detail.is, omega (arith, few, numbered inv)); room = omega (arith, room, numbered inv, same-long inv); known = (ds inv, known inv, fewer inv few) }
 
 pub loop-places-smaller : goal.loop-places-smaller
 loop-places-smaller c =

@@ -2,6 +2,7 @@
 use mathlib.Core.Path.{refl, sym, ◌∙◌}
 use Rattle.format.specs.Doc.{Group}
 use Rattle.rules.specs.Verdicts.{group_findings, group_verdicts}
+use Rattle.transactions.proofs.Prepared.{prepared}
 use Rattle.transactions.specs.Walk.{rest_at}
 use Rattle.transactions.specs.Purposes.{Begun}
 use Rattle.files.specs.Levels.{group_of}
@@ -14,7 +15,7 @@ use Rattle.counting.proofs.count_groups.Goals as goal
 -- ---- what is counted so far
 pub groups-init : goal.groups-init
 groups-init c =
-    begins (record { here = c.requires.file_len_bound.1; left = refl }) (missing-none _ _, λ tables e. part-start _ _ _)
+    begins (record { here = c.requires.0; left = refl }) (missing-none _ _, λ tables e. part-start _ _ _)
 
 pub is_group-requires : goal.is_group-requires
 is_group-requires c = in-file c.groups.invariant
@@ -23,12 +24,12 @@ is_group-requires c = in-file c.groups.invariant
 pub count_group-one-requires : goal.count_group-one-requires
 count_group-one-requires c =
     let begun : Begun c.groups.n.index c.groups.counters.findings c.groups.counters.levels =
-    let (some, indexed) = c.requires.prepared in
-    begun-on ((done c.groups.invariant).1 some indexed) c.requires.file_len_bound.3 in
+    let (some, indexed) = prepared c.args.lent.now in
+    begun-on ((done c.groups.invariant).1 some indexed) c.requires.2 in
     let inv = c.groups.invariant in
     let here = position inv in
     let is-grh = group-here inv (sym c.is_group.ensures ∙ c.groups-test.true) in
-    record { file_len_bound = (c.requires.file_len_bound.0, here.here, is-grh, rw here.left c.requires.file_len_bound.2, begun, (done inv).0.few c.requires.file_len_bound.4); prepared = c.requires.prepared }
+    (here.here, is-grh, rw here.left c.requires.1, begun, (done inv).0.few c.requires.3)
 
 pub groups-smaller : goal.groups-smaller
 groups-smaller c =
@@ -37,9 +38,9 @@ groups-smaller c =
 pub groups-preserved : goal.groups-preserved
 groups-preserved c =
     let inv = c.groups.invariant in
-    let t = c.args.t in
+    let t = c.args.lent.now.t in
     let counted = c.count_group-one.ensures in
-    let g = group_of (rest_at c.args.file.now c.groups.n.at) in
+    let g = group_of (rest_at c.args.lent.now.file.now c.groups.n.at) in
     one_more inv c.count_group-one.result.next counted.past_group (
       rw (joined-last (λ (h : Group). h.transactions) inv.0 g) (missing-then (done inv).0 counted.missing_on),
       λ tables e. part-more (group_verdicts tables t) (group_findings tables t) inv.0 g ((done inv).1 tables e) (counted.counted_group tables e),

@@ -9,9 +9,9 @@ use Rattle.counting.proofs.count_groups.Given as goal
 
 abbrev pub invariant-groups : goal.invariant-groups
 invariant-groups l =
-    Inv l.file (l.first + length (rest_at l.file l.start)) l.start
+    Inv l.lent.file.now (l.first + length (rest_at l.lent.file.now l.start)) l.start
     (λ gs. MissingOn l.first l.n.index (transactions_among gs) l.initial.m l.m
-    × ((tables : Tables) → Indexed tables l.slots → CountedGroups tables l.t l.first l.n.index gs l.initial.counters.findings l.initial.counters.levels l.counters.findings l.counters.levels)) l.n
+    × ((tables : Tables) → Indexed tables l.lent.slots.now → CountedGroups tables l.lent.t l.first l.n.index gs l.initial.counters.findings l.initial.counters.levels l.counters.findings l.counters.levels)) l.n
 
 abbrev pub decreases-groups : goal.decreases-groups
-decreases-groups l = length (rest_at l.file l.n.at)
+decreases-groups l = length (rest_at l.lent.file.now l.n.at)

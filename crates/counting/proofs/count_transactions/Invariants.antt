@@ -9,9 +9,9 @@ use Rattle.counting.proofs.count_transactions.Given as goal
 
 abbrev pub invariant-loop-p : goal.invariant-loop-p
 invariant-loop-p l =
-    Inv l.named l.file (l.first + length (rest_at l.file l.start)) l.start
+    Inv l.named l.lent.file.now (l.first + length (rest_at l.lent.file.now l.start)) l.start
     (λ xs. MissingOn l.first l.p.index xs l.initial.m l.m
-    × ((tables : Tables) → Indexed tables l.slots → CountedTransactions tables l.t l.named l.first l.p.index xs l.initial.counters.findings l.initial.counters.levels l.counters.findings l.counters.levels)) l.p
+    × ((tables : Tables) → Indexed tables l.lent.slots.now → CountedTransactions tables l.lent.t l.named l.first l.p.index xs l.initial.counters.findings l.initial.counters.levels l.counters.findings l.counters.levels)) l.p
 
 abbrev pub decreases-loop-p : goal.decreases-loop-p
-decreases-loop-p l = length (rest_at l.file l.p.at)
+decreases-loop-p l = length (rest_at l.lent.file.now l.p.at)

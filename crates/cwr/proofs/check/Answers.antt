@@ -14,7 +14,7 @@ judge-requires c =
     let args = c.args in
     let told = answered _ _ _ _ _ _ _ c.admit-admitted.ensures c.in_ok-passed.ensures in
     let (o, h, room) = fit _ _ _ args.verdicts.now args.findings.now told in
-    record { file_len_bound = (h.short, h.here, room); right = (o.languages, o.societies, o.categories) }
+    record { here = (h.short, h.here, room); right = (o.languages, o.societies, o.categories) }
 
 pub invariant_of-tolerance : goal.invariant_of-tolerance
 invariant_of-tolerance c =

@@ -13,7 +13,7 @@ invariant_of-tolerance c = (let-in _ _ _ c.in_ok-admit.ensures).0.tolerance
 pub seek-requires : goal.seek-requires
 seek-requires c =
     let (o, fit) = let-in _ _ _ c.in_ok-admit.ensures in
-    record { file_len_bound = (fit.short, fit.here, fit.few); right_tables = (o.languages, o.societies, o.categories) }
+    record { here = (fit.short, fit.here, fit.few); right_tables = (o.languages, o.societies, o.categories) }
 
 pub returns : goal.returns
 returns c = first-ok c.seek.result ∙ found_first _ _ _ c.in_ok-admit.ensures _ c.seek.ensures

@@ -1,6 +1,7 @@
 -- `files::judge_file` meets its contract. Assumes nothing.
 use mathlib.Core.Path.{refl}
 use Rattle.buffers.proofs.Entries.{kept-v, kept-f}
+use Rattle.transactions.proofs.Prepared.{prepared}
 use Rattle.transactions.proofs.Entries.{room-kept, entry-room, filled-then}
 use Rattle.files.proofs.Files.{outset, groups-here, written-file}
 use Rattle.files.proofs.judge_file.Goals as goal
@@ -8,32 +9,32 @@ use Rattle.files.proofs.judge_file.Goals as goal
 -- ---- HDR, the groups, TRL
 pub settle_control-requires : goal.settle_control-requires
 settle_control-requires c =
-    let pre = c.requires.file_len_bound in
-    entry-room (outset pre.1) refl pre.2
+    let pre = c.requires in
+    entry-room (outset pre.0) refl pre.1
 
 pub judge_groups-n-requires : goal.judge_groups-n-requires
 judge_groups-n-requires c =
-    let here = groups-here c.requires.file_len_bound.1 in
-    record { file_len_bound = (c.requires.file_len_bound.0, here.here, rw here.left (room-kept c.settle_control.ensures c.requires.file_len_bound.2)); prepared = c.requires.prepared }
+    let here = groups-here c.requires.0 in
+    (here.here, rw here.left (room-kept c.settle_control.ensures c.requires.1))
 
 pub settle_control-requires-2 : goal.settle_control-requires-2
 settle_control-requires-2 c =
-    let some = c.requires.prepared in
+    let some = prepared c.args.lent.now in
     let written = filled-then c.settle_control.ensures (c.judge_groups-n.ensures.filled_groups some.0 some.1) in
     entry-room c.judge_groups-n.ensures.past_groups.position refl
-    (rw (groups-here c.requires.file_len_bound.1).left (room-kept written c.requires.file_len_bound.2))
+    (rw (groups-here c.requires.0).left (room-kept written c.requires.1))
 
 pub returns : goal.returns
 returns c tables e =
-    written-file c.requires.file_len_bound.1 tables c.args.t _ c.settle_control.ensures (c.judge_groups-n.ensures.filled_groups tables e)
+    written-file c.requires.0 tables c.args.lent.now.t _ c.settle_control.ensures (c.judge_groups-n.ensures.filled_groups tables e)
     c.settle_control-2.ensures
 
 pub shape_of-verdicts : goal.shape_of-verdicts
 shape_of-verdicts c =
-    let some = c.requires.prepared in
+    let some = prepared c.args.lent.now in
     kept-v (returns c some.0 some.1)
 
 pub shape_of-findings : goal.shape_of-findings
 shape_of-findings c =
-    let some = c.requires.prepared in
+    let some = prepared c.args.lent.now in
     kept-f (returns c some.0 some.1)

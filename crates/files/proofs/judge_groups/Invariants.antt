@@ -9,9 +9,9 @@ use Rattle.files.proofs.judge_groups.Given as goal
 
 abbrev pub invariant-groups : goal.invariant-groups
 invariant-groups l =
-    Inv l.file (l.first + length (rest_at l.file l.start)) l.start
-    (λ gs. (tables : Tables) → Indexed tables l.slots → FilledGroups tables l.t l.first l.n.index gs l.initial.verdicts l.initial.findings l.verdicts l.findings)
+    Inv l.lent.file.now (l.first + length (rest_at l.lent.file.now l.start)) l.start
+    (λ gs. (tables : Tables) → Indexed tables l.lent.slots.now → FilledGroups tables l.lent.t l.first l.n.index gs l.initial.verdicts l.initial.findings l.verdicts l.findings)
     l.n
 
 abbrev pub decreases-groups : goal.decreases-groups
-decreases-groups l = length (rest_at l.file l.n.at)
+decreases-groups l = length (rest_at l.lent.file.now l.n.at)

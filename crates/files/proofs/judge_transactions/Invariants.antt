@@ -9,9 +9,9 @@ use Rattle.files.proofs.judge_transactions.Given as goal
 
 abbrev pub invariant-loop-p : goal.invariant-loop-p
 invariant-loop-p l =
-    Inv l.named l.file (l.first + length (rest_at l.file l.start)) l.start
-    (λ xs. (tables : Tables) → Indexed tables l.slots → FilledTransactions tables l.t l.named l.first l.p.index xs l.initial.verdicts l.initial.findings l.verdicts l.findings)
+    Inv l.named l.lent.file.now (l.first + length (rest_at l.lent.file.now l.start)) l.start
+    (λ xs. (tables : Tables) → Indexed tables l.lent.slots.now → FilledTransactions tables l.lent.t l.named l.first l.p.index xs l.initial.verdicts l.initial.findings l.verdicts l.findings)
     l.p
 
 abbrev pub decreases-loop-p : goal.decreases-loop-p
-decreases-loop-p l = length (rest_at l.file l.p.at)
+decreases-loop-p l = length (rest_at l.lent.file.now l.p.at)

@@ -14,7 +14,7 @@ use Rattle.search.proofs.search.Goals as goal
 
 -- ----
 pub groups-init : goal.groups-init
-groups-init c = (begins (groups-here c.requires.file_len_bound.1) (λ tables e. (refl, refl)), omega arith)
+groups-init c = (begins (groups-here c.requires.0) (λ tables e. (refl, refl)), omega arith)
 
 pub is_group-requires : goal.is_group-requires
 is_group-requires c = in-file c.groups.invariant.0
@@ -24,7 +24,7 @@ search_group-requires c =
     let inv = c.groups.invariant.0 in
     let here = position inv in
     let is-grh = group-here inv (sym c.is_group.ensures ∙ c.groups-test.true) in
-    record { file_len_bound = (c.requires.file_len_bound.0, here.here, is-grh, rw here.left c.requires.file_len_bound.2, c.groups.invariant.1); prepared = c.requires.prepared }
+    (here.here, is-grh, rw here.left c.requires.1, c.groups.invariant.1)
 
 -- ---- found
 pub returns-in-Err : goal.returns-in-Err
@@ -32,8 +32,8 @@ returns-in-Err c tables e =
     let inv = c.groups.invariant.0 in
     let opens = group-here inv (sym c.is_group.ensures ∙ c.groups-test.true) in
     let (counted, none_yet) = done inv tables e in
-    grave-in (sets_of_group tables c.args.t) inv.0 counted none_yet (group_of (rest_at c.args.file.now c.groups.n.at)) _
-    (all-groups c.requires.file_len_bound.1 ∙ split-here inv opens)
+    grave-in (sets_of_group tables c.args.lent.now.t) inv.0 counted none_yet (group_of (rest_at c.args.lent.now.file.now c.groups.n.at)) _
+    (all-groups c.requires.0 ∙ split-here inv opens)
     (c.in-Err.ensures.result_value tables e)
 
 -- ---- the group is clean, and the walk is past it
@@ -41,17 +41,17 @@ pub overflow_add-n-in-Ok : goal.overflow_add-n-in-Ok
 overflow_add-n-in-Ok c =
     let inv = c.groups.invariant.0 in
     let opens = group-here inv (sym c.is_group.ensures ∙ c.groups-test.true) in
-    omega (arith, closing-ends (standing c.groups.n.index (position inv).here) opens c.in-Ok.ensures.past_clean_group.0, c.requires.file_len_bound.0)
+    omega (arith, closing-ends (standing c.groups.n.index (position inv).here) opens c.in-Ok.ensures.past_clean_group.0, c.args.lent.now.short)
 
 pub overflow_add-n-in-Ok-2 : goal.overflow_add-n-in-Ok-2
 overflow_add-n-in-Ok-2 c =
     let inv = c.groups.invariant.0 in
     let opens = group-here inv (sym c.is_group.ensures ∙ c.groups-test.true) in
-    omega (arith, closing-ends (standing c.groups.n.index (position inv).here) opens c.in-Ok.ensures.past_clean_group.0, c.requires.file_len_bound.0)
+    omega (arith, closing-ends (standing c.groups.n.index (position inv).here) opens c.in-Ok.ensures.past_clean_group.0, c.args.lent.now.short)
 
 pub overflow_add-n-in-Ok-3 : goal.overflow_add-n-in-Ok-3
 overflow_add-n-in-Ok-3 c =
-    omega (arith, c.in-Ok.ensures.past_clean_group.0.position.left, (position c.groups.invariant.0).left, c.requires.file_len_bound.2)
+    omega (arith, c.in-Ok.ensures.past_clean_group.0.position.left, (position c.groups.invariant.0).left, c.requires.1)
 
 pub groups-smaller : goal.groups-smaller
 groups-smaller c =
@@ -65,13 +65,13 @@ groups-preserved c =
     let opens = group-here inv (sym c.is_group.ensures ∙ c.groups-test.true) in
     let past = c.in-Ok.ensures.past_clean_group in
     let args = c.args in
-    let g = group_of (rest_at args.file.now c.groups.n.at) in (
+    let g = group_of (rest_at args.lent.now.file.now c.groups.n.at) in (
       one_more inv _ (past-group (standing c.groups.n.index (position inv).here) opens past.0)
           (λ tables e.
           let (counted, none_yet) = done inv tables e in
-          let as_many : length (sets_of_group tables args.t g) ≡ length g.transactions =
-          length-map g.transactions (transaction_findings tables args.t (named_type g.opening)) in
-          group-on (sets_of_group tables args.t) inv.0 counted none_yet g (omega (arith, past.1, as_many))
+          let as_many : length (sets_of_group tables args.lent.now.t g) ≡ length g.transactions =
+          length-map g.transactions (transaction_findings tables args.lent.now.t (named_type g.opening)) in
+          group-on (sets_of_group tables args.lent.now.t) inv.0 counted none_yet g (omega (arith, past.1, as_many))
           (c.in-Ok.ensures.result_value tables e)),
       omega (arith, past.2),
     )
@@ -80,5 +80,5 @@ pub returns : goal.returns
 returns c tables e =
     let inv = c.groups.invariant.0 in
     let (counted, none_yet) = done inv tables e in
-    none_in (sets_of_group tables c.args.t) inv.0 counted none_yet
-    (all-groups c.requires.file_len_bound.1 ∙ all-gone inv (sym c.is_group.ensures ∙ c.groups-test.false))
+    none_in (sets_of_group tables c.args.lent.now.t) inv.0 counted none_yet
+    (all-groups c.requires.0 ∙ all-gone inv (sym c.is_group.ensures ∙ c.groups-test.false))

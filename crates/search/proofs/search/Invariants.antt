@@ -14,10 +14,10 @@ use Rattle.search.proofs.search.Given as goal
 
 abbrev pub invariant-groups : goal.invariant-groups
 invariant-groups l =
-    Inv l.file (length (rest_at l.file 0)) 169
-    (λ gs. (tables : Tables) → Indexed tables l.slots
-    → (l.k ≡ length (joined (sets_of_group tables l.t) gs)) × (any (any is_grave) (joined (sets_of_group tables l.t) gs) ≡ false)) l.n
+    Inv l.lent.file.now (length (rest_at l.lent.file.now 0)) 169
+    (λ gs. (tables : Tables) → Indexed tables l.lent.slots.now
+    → (l.k ≡ length (joined (sets_of_group tables l.lent.t) gs)) × (any (any is_grave) (joined (sets_of_group tables l.lent.t) gs) ≡ false)) l.n
     × (l.k ≤ l.n.index)
 
 abbrev pub decreases-groups : goal.decreases-groups
-decreases-groups l = length (rest_at l.file l.n.at)
+decreases-groups l = length (rest_at l.lent.file.now l.n.at)

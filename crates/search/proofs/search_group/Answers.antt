@@ -10,24 +10,24 @@ use Rattle.search.proofs.search_group.Goals as goal
 
 pub slice_bounds-opening-end : goal.slice_bounds-opening-end
 slice_bounds-opening-end c =
-    let position = standing c.args.index c.requires.file_len_bound.1 in
-    omega (arith, opening-ends position c.requires.file_len_bound.2)
+    let position = standing c.args.index c.requires.0 in
+    omega (arith, opening-ends position c.requires.1)
 
 pub search_transactions-requires : goal.search_transactions-requires
 search_transactions-requires c =
-    let position = standing c.args.index c.requires.file_len_bound.1 in
-    let here = position-after group-header position refl c.requires.file_len_bound.2 _ refl in
-    record { file_len_bound = (c.requires.file_len_bound.0, here.here, rw here.left c.requires.file_len_bound.3, omega (arith, c.requires.file_len_bound.4)); prepared = c.requires.prepared }
+    let position = standing c.args.index c.requires.0 in
+    let here = position-after group-header position refl c.requires.1 _ refl in
+    (here.here, rw here.left c.requires.2, omega (arith, c.requires.3))
 
 pub returns : goal.returns
 returns c =
-    let position = standing c.args.index c.requires.file_len_bound.1 in
-    let is-grh = c.requires.file_len_bound.2 in
+    let position = standing c.args.index c.requires.0 in
+    let is-grh = c.requires.1 in
     let named = c.field-named.ensures.result_value ∙ ap named_type (opening-lent position is-grh _ refl) in
     let found = c.search_transactions.result in record {
       past_clean_group = rw named
           at (known-after group-header position refl is-grh _ refl
-          (λ k l. PastCleanGroup c.field-named.result.now c.args.file.now k c.args.number l found)
+          (λ k l. PastCleanGroup c.field-named.result.now c.args.lent.now.file.now k c.args.number l found)
           c.search_transactions.ensures.past_clean_group);
       result_value = λ tables e. rw (named, left_after group-header position refl is-grh _ refl) at (c.search_transactions.ensures.result_value tables e);
     }

@@ -13,9 +13,9 @@ use Rattle.search.proofs.search_transactions.Given as goal
 
 abbrev pub invariant-loop-p : goal.invariant-loop-p
 invariant-loop-p l =
-    Inv l.named l.file (l.first + length (rest_at l.file l.start)) l.start
-    (λ xs. (l.k ≡ l.number + length xs) × ((tables : Tables) → Indexed tables l.slots → any (any is_grave) (sets_of tables l.t l.named xs) ≡ false)) l.p
+    Inv l.named l.lent.file.now (l.first + length (rest_at l.lent.file.now l.start)) l.start
+    (λ xs. (l.k ≡ l.number + length xs) × ((tables : Tables) → Indexed tables l.lent.slots.now → any (any is_grave) (sets_of tables l.lent.t l.named xs) ≡ false)) l.p
     × (l.k ≤ l.p.index)
 
 abbrev pub decreases-loop-p : goal.decreases-loop-p
-decreases-loop-p l = length (rest_at l.file l.p.at)
+decreases-loop-p l = length (rest_at l.lent.file.now l.p.at)

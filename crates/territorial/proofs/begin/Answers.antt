@@ -9,7 +9,7 @@ pub judge-requires : goal.judge-requires
 judge-requires c =
     let a = admitted _ _ _ _ _ _ _ c.requires.1 in
     let l = a.in-with in
-    record { file_len_bound = (l.fit.short, l.fit.here, a.enough-room); right = (l.orderly.languages, l.orderly.societies, l.orderly.categories) }
+    record { here = (l.fit.short, l.fit.here, a.enough-room); right = (l.orderly.languages, l.orderly.societies, l.orderly.categories) }
 
 pub invariant_of-most : goal.invariant_of-most
 invariant_of-most c = (admitted _ _ _ _ _ _ _ c.requires.1).in-with.orderly.tolerance

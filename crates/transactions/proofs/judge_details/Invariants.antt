@@ -9,10 +9,10 @@ use Rattle.transactions.proofs.judge_details.Given as goal
 
 abbrev pub invariant-loop-rejects : goal.invariant-loop-rejects
 invariant-loop-rejects l =
-    Inv l.file (l.first + length (rest_at l.file l.start)) l.start
-    (λ ds. (tables : Tables) → Indexed tables l.slots
+    Inv l.lent.file.now (l.first + length (rest_at l.lent.file.now l.start)) l.start
+    (λ ds. (tables : Tables) → Indexed tables l.lent.slots.now
     → DoneDetails l.purpose tables l.first l.w.index ds l.rejects l.initial.verdicts l.initial.findings l.initial.counters.findings l.initial.counters.levels l.verdicts l.findings l.counters.findings l.counters.levels)
     l.chains l.w
 
 abbrev pub decreases-loop-rejects : goal.decreases-loop-rejects
-decreases-loop-rejects l = length (rest_at l.file l.w.at)
+decreases-loop-rejects l = length (rest_at l.lent.file.now l.w.at)

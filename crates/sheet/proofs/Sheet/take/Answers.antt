@@ -13,7 +13,7 @@ returns-then-self-ge-MOST_FILES c = full-so _ _ (le-leb _ _ c.if-self-ge-MOST_FI
 pub count-requires : goal.count-requires
 count-requires c =
     let (o, fit) = let-in _ _ _ c.in-Ok.ensures in
-    record { file_len_bound = (fit.short, fit.here, fit.few); right_tables = (o.languages, o.societies, o.categories) }
+    record { here = (fit.short, fit.here, fit.few); right_tables = (o.languages, o.societies, o.categories) }
 
 pub returns-in-Ok : goal.returns-in-Ok
 unfolding answer_to
