@@ -13,12 +13,11 @@ ghost use Rattle.parties.specs.Ahead.{entries_at, Within};
 use claims::{Claim, Taken};
 use values::Tolerance;
 
-// The first n entries are zeros.
-pub fn clear(claims: &mut [Claim], n: usize)
-    requires { n ≤ length claims.old }
-    ensures { claims.new ≡ replicate n no_claim ++ drop n claims.old }
+// All entries are zeros.
+pub fn clear(claims: &mut [Claim])
+    ensures { claims.new ≡ replicate (length claims.old) no_claim }
 {
-    claims[..n].fill(Claim::default());
+    claims.fill(Claim::default());
 }
 
 // The claims of the details from that byte on, one entry each; how many they are.

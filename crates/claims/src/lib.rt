@@ -161,7 +161,7 @@ fn exceeds(share: u64, t: Tolerance) -> bool
 }
 
 // The first territory without members in which the entries counted come to more than all of some right; where there is none, how many
-// territories there are.
+// territories there are. No Option, as with a code's place.
 pub fn first_over(table: &[u8], t: Tolerance, work: &[Taken]) -> usize
     requires { (right_territories table.now ≡ true) × Summed table.now work.now }
     ensures { (es : List Claim) (last : ℕ) → Counted table.now es last work.now → result ≡ over_in table.now t es }

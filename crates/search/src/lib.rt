@@ -68,7 +68,8 @@ pub struct Clean {
     pub next: usize,
 }
 
-// The transactions of a group, after its GRH, which names that type; the first of them has that number. Where one
+// The transactions of a group, after its GRH, which names that type; the first of them has that number. A loop of its own beside those of the
+// check and of the sheet, since it is lent no buffer and ends early. Where one
 // has such a finding, its number.
 fn search_transactions(
     lent: &Lent,

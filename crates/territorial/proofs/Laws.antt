@@ -6,7 +6,7 @@ use native.Mathlib.Nat.{zero-add}
 use mathlib.Core.Path.{◌≡◌, refl, ap, ◌∙◌}
 use mathlib.Core.Bool.{true, false}
 use mathlib.Core.List.{List, [], ◌∷◌, ◌++◌, append-nil}
-use lib.ListN.{length, drop, replicate, drop_of_length-le}
+use lib.ListN.{length, drop, replicate}
 use Rattle.format.specs.Bytes.{Bytes}
 use Rattle.format.specs.Cwr22.{cwr22}
 use Rattle.format.specs.Structure.{most_records}
@@ -115,7 +115,3 @@ pub refused-so : {tables : Tables} {table : Bytes} {t : ℕ} {f : Bytes} {v g : 
     → Checked tables table t f cs v g r cs v g
 unfolding check_claims claimed_by
 refused-so cs r e h is = let p = err_from_is_err_and r h in rw (p.1, p.2) (record { is = rw (← is) refl })
-
--- the whole list is cleared
-pub all-cleared : (n : ℕ) (cs : List Claim) → length cs ≡ n → replicate n no_claim ++ drop n cs ≡ replicate n no_claim
-all-cleared n cs e = rw (drop_of_length-le cs {i = n} (omega (arith, e)), append-nil (replicate n no_claim)) refl

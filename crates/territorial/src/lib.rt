@@ -157,7 +157,7 @@ pub fn check(
         let over = claim_list::exceeding(&claims[..n], territories, tolerance);
         s = go_on(file, territories, tolerance, s, over, verdicts, findings);
     }
-    claim_list::clear(claims, room);
+    claim_list::clear(claims);
     Ok(Claimed {
         passed,
         over: s.walk.over,

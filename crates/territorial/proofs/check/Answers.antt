@@ -5,7 +5,7 @@ use Rattle.std.proofs.Math.Seq.{take_at}
 use Rattle.claims.specs.Entries.{over_in}
 use Rattle.parties.specs.Ahead.{entries_at}
 use Rattle.tables.specs.Lent.{lent_in}
-use Rattle.territorial.proofs.Laws.{doubt, ended, refused-so, all-cleared, told-over}
+use Rattle.territorial.proofs.Laws.{doubt, ended, refused-so, told-over}
 use Rattle.territorial.proofs.check.Goals as goal
 
 pub returns-in_err-passed : goal.returns-in_err-passed
@@ -57,5 +57,5 @@ loop-s-preserved c =
 pub returns : goal.returns
 returns c =
     let inv = c.loop-s.invariant in
-    rw (c.clear.ensures ∙ all-cleared (length c.args.claims.now) c.loop-s.claims inv.1)
+    rw (c.clear.ensures, inv.1)
     (ended inv.0 c.args.claims.now _ c.in_ok-passed.ensures refl c.in_default.is (told-over c.loop-s.s.walk.over))
