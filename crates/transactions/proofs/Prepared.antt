@@ -12,11 +12,10 @@ use borrow.Author.Tests.{eqb-true, eqb-false}
 use Rattle.std.proofs.Math.Bridge.{le_prop}
 use Rattle.format.specs.Bytes.{Bytes, among}
 use Rattle.format.proofs.Tests.{by_cases}
-use Rattle.rules.specs.Tables.{most_entries}
-use Rattle.tables.specs.Index.{hint_count, part_size, KeyOfAny, Stands, Part}
+use Rattle.rules.specs.Tables.{Tables, most_entries}
+use Rattle.tables.specs.Index.{hint_count, part_size, KeyOfAny, Stands, Part, Indexed}
 use Rattle.tables.specs.Which.{lent_in}
 use Rattle.transactions.specs.declared.lending.Lent.{Lent}
-use Rattle.transactions.specs.Walk.{Prepared}
 
 -- ---- a key is in a range of slots, or not
 
@@ -62,7 +61,8 @@ module _ {size first : ℕ} {es : List Bytes} {slots : List ℕ} (p : ∥ Part s
     ascending = λ q a b. ∥∥₁_elim p le_prop (λ x. x.ascending q a b);
   }
 
-pub prepared : (l : Lent) → Prepared l.slots.now
+-- the slots are an index of some tables
+pub prepared : (l : Lent) → (tables : Tables) × Indexed tables l.slots.now
 prepared l = (
   lent_in l.tables,
   record {
