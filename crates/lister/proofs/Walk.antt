@@ -18,7 +18,8 @@ use Rattle.text.specs.Words.{word_of}
 use Rattle.lines.specs.Scan.{text_length}
 use Rattle.structure.specs.Rest.{is_good}
 use Rattle.structure.proofs.Here.{record_at, fits, here-three, records-here, fine-after, all_after}
-use Rattle.lister.specs.Put.{Put}
+use Rattle.lister.specs.declared.Page.{Page}
+use Rattle.lister.specs.Put.{Room, Put, Adds}
 use Rattle.lister.specs.Read.{Listable, first_set, line_at, lines_from}
 use Rattle.lister.proofs.Words.{nothing_put, then}
 
@@ -26,16 +27,16 @@ use Rattle.lister.proofs.Words.{nothing_put, then}
 abbrev rest_at : Bytes → ℕ → List Bytes
 rest_at f i = records_in (lines (drop i f))
 
-pub record Going (f v g : Bytes) (start : ℕ) (old new : Bytes) (i n p : ℕ) : Type 0 where
+pub record Going (f v g : Bytes) (p q : Page) (i n : ℕ) : Type 0 where
   pub within : i ≤ length f
   pub fine : is_good (lines (drop i f)) ≡ true
   pub all : Along (check6 cwr22) (rest_at f i)
   pub in_v : n + length (rest_at f i) ≤ length v
   pub in_g : 8 * (n + length (rest_at f i)) ≤ length g
   pub done : Bytes
-  pub put : Put start done old new p
+  pub put : Put done p q
   pub owed : done ++ lines_from v g n (rest_at f i) ≡ lines_from v g 0 (records_in (lines f))
-  pub few : p ≤ start + 10 * i
+  pub few : q.at ≤ p.at + 10 * i
 
 -- ---- the first of some lines
 
@@ -52,19 +53,18 @@ first-line v g n r rs h =
     rw (drop-cons v n 0 h, e, ← drop-drop 8 (8 * n) g, add-one)
 
 -- and as it was put
-pub line-put : {a r : ℕ} {o m : Bytes} (f : Bytes) (i n : ℕ) (v g : Bytes) (x w : ℕ)
+pub line-put : {p q : Page} (f : Bytes) (i n : ℕ) (v g : Bytes) (x w : ℕ)
     → x ≡ word_of (take (8 * n + 8 - 8 * n) (drop (8 * n) g)) → w ≡ get_or v n 0
-    → Put a (record_line n (take (i + 3 - i) (drop i f)) w (places 64 x)) o m r → Put a (line_at f i n v g) o m r
-line-put f i n v g x w is_set is-verdict p =
+    → Put (record_line n (take (i + 3 - i) (drop i f)) w (places 64 x)) p q → Put (line_at f i n v g) p q
+line-put f i n v g x w is_set is-verdict h =
     let eight : 8 * n + 8 - 8 * n ≡ 8 = omega arith in
     let three : i + 3 - i ≡ 3 = omega arith in
-    rw (is_set, eight, is-verdict, three) at p
+    rw (is_set, eight, is-verdict, three) at h
 
 -- ---- start and end
 
-pub going_start : (f v g : Bytes) (start : ℕ) (old : Bytes) → Listable f v g → start + 10 * length f ≤ length old
-    → Going f v g start old old 0 0 start
-going_start f v g start old l room =
+pub going_start : (f v g : Bytes) (p : Page) → Listable f v g → Room (10 * length f) p → Going f v g p p 0 0
+going_start f v g p l room =
     record {
       within = omega arith;
       fine = l.here.good;
@@ -72,13 +72,13 @@ going_start f v g start old l room =
       in_v = omega (arith, l.in_v);
       in_g = omega (arith, l.in_g);
       done = [];
-      put = nothing_put start old (omega arith);
+      put = nothing_put p (omega arith);
       owed = refl;
       few = omega arith;
     }
 
-pub going_end : {f v g : Bytes} {start : ℕ} {old new : Bytes} {i n p : ℕ} → Going f v g start old new i n p → length f ≤ i
-    → Put start (lines_from v g 0 (records_in (lines f))) old new p
+pub going_end : {f v g : Bytes} {p q : Page} {i n : ℕ} → Going f v g p q i n → length f ≤ i
+    → Put (lines_from v g 0 (records_in (lines f))) p q
 unfolding lines lines_from
 going_end {f} {v} {g} G h =
     let e : G.done ≡ lines_from v g 0 (records_in (lines f)) = sym (append-nil G.done) ∙ (rw (drop_of_length-le f h) at G.owed) in
@@ -86,7 +86,7 @@ going_end {f} {v} {g} G h =
 
 -- ---- one record more
 
-module _ {f v g : Bytes} {start : ℕ} {old new : Bytes} {i n p : ℕ} (G : Going f v g start old new i n p) (here : i < length f) where
+module _ {f v g : Bytes} {p q : Page} {i n : ℕ} (G : Going f v g p q i n) (here : i < length f) where
   -- its three bytes of type, and CR LF
   pub five-bytes : i + 5 ≤ length f
   five-bytes = omega (arith, here-three f i here G.fine G.all, fits f i here G.fine)
@@ -119,9 +119,8 @@ module _ {f v g : Bytes} {start : ℕ} {old new : Bytes} {i n p : ℕ} (G : Goin
           ∙ ap (λ (t : Bytes). record_line n t (get_or v n 0) set)
           (take-take 3 (text_length (drop i f)) (drop i f) (here-three f i here G.fine G.all))
 
-  pub going_on : (j : ℕ) → j ≡ i + text_length (drop i f) → (new' : Bytes) (q : ℕ) → Put p (line_at f i n v g) new new' q → q ≤ p + 48
-      → Going f v g start old new' (j + 2) (n + 1) q
-  going_on j e new' q w most =
+  pub going_on : (j : ℕ) → j ≡ i + text_length (drop i f) → (r : Page) → Adds 48 (line_at f i n v g) q r → Going f v g p r (j + 2) (n + 1)
+  going_on j e r w =
       rw e
       record {
         within = next-within;
@@ -130,7 +129,7 @@ module _ {f v g : Bytes} {start : ℕ} {old new : Bytes} {i n p : ℕ} (G : Goin
         in_v = omega (arith, one_more, G.in_v);
         in_g = omega (arith, one_more, G.in_g);
         done = G.done ++ line_at f i n v g;
-        put = then G.put w;
+        put = then G.put w.0;
         owed = append_assoc G.done (line_at f i n v g) _ ∙ ap (λ (l : Bytes). G.done ++ l) (sym split) ∙ G.owed;
-        few = omega (arith, G.few, here-three f i here G.fine G.all);
+        few = omega (arith, G.few, w.1, here-three f i here G.fine G.all);
       }

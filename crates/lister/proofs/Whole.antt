@@ -25,6 +25,7 @@ use Rattle.transactions.specs.Walk.{rest_at, Room}
 use Rattle.answers.specs.Numbers.{is_passed}
 use Rattle.cwr.proofs.Outcomes.{fit, splice_front}
 use Rattle.lister.specs.Promises.{Listed}
+use Rattle.lister.specs.declared.Page.{Page}
 use Rattle.lister.specs.Put.{Put}
 use Rattle.lister.specs.Read.{Listable, lines_from}
 use Rattle.lister.proofs.Back.{listed_back}
@@ -90,18 +91,18 @@ module _ (tables : Tables) (t : ℕ) (f v₀ g₀ : Bytes) (a : Answer) (v g : B
 
 -- ---- an input of any length
 
--- text at the front of a buffer
-front : {r : ℕ} {x old new : Bytes} → Put 0 x old new r → (r ≡ length x) × (new ≡ x ++ drop r old)
-front {r} {x} {old} p =
-    let whole : r ≡ length x = omega (arith, p.after) in
-    (whole, p.text ∙ splice_front x old ∙ rw whole)
+-- text that is put first on a page
+front : {x : Bytes} {p q : Page} → p.at ≡ 0 → Put x p q → (q.at ≡ length x) × (q.out.now ≡ x ++ drop q.at p.out.now)
+front {x} {p} {q} start h =
+    let whole : q.at ≡ length x = omega (arith, h.after) in
+    (whole, h.text ∙ rw (start, whole) (splice_front x p.out.now))
 
-pub short-listed : {r : ℕ} {old new : Bytes} (f : Bytes) → length f ≤ most_input → Put 0 (listed listing_tables largest_tolerance f) old new r
-    → Listed f old r new
+pub short-listed : {p q : Page} (f : Bytes) → length f ≤ most_input → p.at ≡ 0 → Put (listed listing_tables largest_tolerance f) p q
+    → Listed f p.out.now q.at q.out.now
 unfolding listing
-short-listed f h p = rw (le-leb (length f) most_input h) (front p)
+short-listed f h start k = rw (le-leb (length f) most_input h) (front start k)
 
-pub long-listed : {r : ℕ} {old new : Bytes} (f : Bytes) → most_input < length f → Put 0 (ascii "INPUT TOO LONG" ++ 10 ∷ []) old new r
-    → Listed f old r new
+pub long-listed : {p q : Page} (f : Bytes) → most_input < length f → p.at ≡ 0 → Put (ascii "INPUT TOO LONG" ++ 10 ∷ []) p q
+    → Listed f p.out.now q.at q.out.now
 unfolding listing
-long-listed f h p = rw (lt-leb (length f) most_input h) (front p)
+long-listed f h start k = rw (lt-leb (length f) most_input h) (front start k)

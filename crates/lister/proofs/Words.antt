@@ -15,41 +15,52 @@ use Rattle.structure.proofs.Cursor.{to_end}
 use Rattle.rules.specs.Listing.{without_zeros, figure}
 use Rattle.format.specs.Lent.{splice}
 use Rattle.buffers.proofs.Splice.{splice-nil, set-splice, part-splice, length-splice, splice-on}
-use Rattle.lister.specs.Put.{Put}
+use Rattle.lister.specs.declared.Page.{Page}
+use Rattle.lister.specs.Put.{Room, Put, Adds}
 
--- ---- text put into a buffer
+-- ---- text put on a page
 
-pub nothing_put : (a : ℕ) (o : Bytes) → a ≤ length o → Put a [] o o a
-nothing_put a o h = record { fits = omega arith; text = sym (splice-nil a o); after = omega arith }
+pub nothing_put : (p : Page) → p.at ≤ length p.out.now → Put [] p p
+nothing_put p h = record { fits = omega arith; text = sym (splice-nil p.at p.out.now); after = omega arith; same_reference = refl }
 
-pub length-put : {a r : ℕ} {x o n : Bytes} → Put a x o n r → length n ≡ length o
-length-put {a} {x = x} {o = o} p = ap length p.text ∙ length-splice a x o p.fits
+pub length-put : {x : Bytes} {p q : Page} → Put x p q → length q.out.now ≡ length p.out.now
+length-put {x} {p} h = ap length h.text ∙ length-splice p.at x p.out.now h.fits
 
 -- more after it
-pub then : {a r s : ℕ} {x y o n m : Bytes} → Put a x o n r → Put r y n m s → Put a (x ++ y) o m s
-then {a} {r} {s} {x} {y} {o} p q =
+pub then : {x y : Bytes} {p q r : Page} → Put x p q → Put y q r → Put (x ++ y) p r
+then {x} {y} {p} h k =
     record {
-      fits = omega (arith, length-append x y, q.fits, p.after, length-put p);
-      text = q.text ∙ rw (p.text, p.after) (splice-on a x o p.fits y);
-      after = q.after ∙ omega (arith, length-append x y, p.after);
+      fits = omega (arith, length-append x y, k.fits, h.after, length-put h);
+      text = k.text ∙ rw (h.text, h.after) (splice-on p.at x p.out.now h.fits y);
+      after = k.after ∙ omega (arith, length-append x y, h.after);
+      same_reference = k.same_reference ∙ h.same_reference;
     }
 
 -- more after a word and the byte that ends it
-pub word-then : {a r s : ℕ} {y o n m : Bytes} (w : Bytes) (x : ℕ) → Put a (w ++ x ∷ []) o n r → Put r y n m s → Put a (w ++ x ∷ y) o m s
-word-then {y = y} w x p q = rw (append_assoc w (x ∷ []) y) at (then p q)
+pub word-then : {y : Bytes} {p q r : Page} (w : Bytes) (x : ℕ) → Put (w ++ x ∷ []) p q → Put y q r → Put (w ++ x ∷ y) p r
+word-then {y = y} w x h k = rw (append_assoc w (x ∷ []) y) at (then h k)
+
+-- a text that is not long
+pub adds : {n : ℕ} {x : Bytes} {p q : Page} → length x ≤ n → Put x p q → Adds n x p q
+adds most h = (h, omega (arith, most, h.after), length-put h)
 
 -- a word that was copied into its part of the buffer, and a byte stored after it
-pub word-put : (w ys out : Bytes) (a e x : ℕ) → e ≡ a + length w → e < length out
-    → ys ≡ w → Put a (w ++ x ∷ []) out (set (put_mid a (e - a) out ys) e x) (e + 1)
-word-put w ys out a e x q h same =
-    let k : length w ≡ e - a = omega arith in
-    let fit : a + length w ≤ length out = omega arith in
-    let first : put_mid a (e - a) out ys ≡ splice a w out = rw same (part-splice a (e - a) w out k) in
-    let inside : e < length (splice a w out) = omega (arith, length-splice a w out fit) in
+pub word-put : (w ys : Bytes) (x : ℕ) (p q : Page) → Room (length w + 1) p → ys ≡ w
+    → q.out.now ≡ set (put_mid p.at (p.at + length w - p.at) p.out.now ys) (p.at + length w) x
+    → q.at ≡ p.at + length w + 1 → q.out.ghost_name ≡ p.out.ghost_name → Adds (length w + 1) (w ++ x ∷ []) p q
+word-put w ys x p q room same is after name =
+    let a = p.at in
+    let e = a + length w in
+    let out = p.out.now in
+    let first : put_mid a (e - a) out ys ≡ splice a w out = rw same (part-splice a (e - a) w out (omega arith)) in
+    let inside : e < length (splice a w out) = omega (arith, room, length-splice a w out (omega (arith, room))) in
+    let long : length (w ++ x ∷ []) ≡ length w + 1 = omega (arith, length-append w (x ∷ [])) in
+    adds (omega (arith, long))
     record {
-      fits = omega (arith, length-append w (x ∷ []));
-      text = rw first (set-splice e x (splice a w out) inside ∙ rw q (splice-on a w out fit (x ∷ [])));
-      after = omega (arith, length-append w (x ∷ []));
+      fits = omega (arith, room, long);
+      text = is ∙ rw first (set-splice e x (splice a w out) inside ∙ splice-on a w out (omega (arith, room)) (x ∷ []));
+      after = omega (arith, after, long);
+      same_reference = name;
     }
 
 -- ---- zeros before a number
@@ -86,14 +97,14 @@ pub left-most : (d : Bytes) (last k : ℕ) → last ≡ length d - 1 → k ≡ l
 left-most d last k e is = omega (arith, is, lead-most (take last d), length-take-le last d (omega (arith, e)))
 
 -- the digits that are left, of n, were put
-pub digits-put : {a r : ℕ} {o m : Bytes} (d : Bytes) (n k x : ℕ) → length d ≡ n → drop k d ≡ without_zeros d
-    → Put a (take (n - k) (drop k d) ++ x ∷ []) o m r → Put a (without_zeros d ++ x ∷ []) o m r
-digits-put d n k x long e p = rw (to_end d k, e) at (rw (← long) at p)
+pub digits-put : {p q : Page} (d : Bytes) (n k x : ℕ) → length d ≡ n → drop k d ≡ without_zeros d
+    → Put (take (n - k) (drop k d) ++ x ∷ []) p q → Put (without_zeros d ++ x ∷ []) p q
+digits-put d n k x long e h = rw (to_end d k, e) at (rw (← long) at h)
 
 pub digits-most : (d : Bytes) (n k : ℕ) → length d ≡ n → length (take (n - k) (drop k d)) ≤ length d
 digits-most d n k long = rw (← long, to_end d k, length-drop) (omega arith)
 
-pub figure-put : {a r : ℕ} {o m : Bytes} (n x : ℕ) (d : Bytes) → d ≡ decimal 10 n → Put a (without_zeros d ++ x ∷ []) o m r
-    → Put a (figure n ++ x ∷ []) o m r
+pub figure-put : {p q : Page} (n x : ℕ) (d : Bytes) → d ≡ decimal 10 n → Put (without_zeros d ++ x ∷ []) p q
+    → Put (figure n ++ x ∷ []) p q
 unfolding figure
-figure-put n x d e p = rw e at p
+figure-put n x d e h = rw e at h
