@@ -14,7 +14,7 @@ use Rattle.format.specs.Bytes.{Bytes, among}
 use Rattle.format.proofs.Tests.{by_cases}
 use Rattle.rules.specs.Tables.{Tables, most_entries}
 use Rattle.tables.specs.Index.{hint_count, part_size, KeyOfAny, Stands, Part, Indexed}
-use Rattle.tables.specs.Which.{lent_in}
+use Rattle.tables.specs.Lent.{lent_in}
 use Rattle.transactions.specs.declared.lending.Lent.{Lent}
 
 -- ---- a key is in a range of slots, or not

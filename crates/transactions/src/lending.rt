@@ -2,7 +2,7 @@
 ghost use Rattle.std.specs.Prelude.{◌≤◌, length};
 ghost use Rattle.format.specs.Structure.{most_bytes};
 ghost use Rattle.tables.specs.Index.{Indexed};
-ghost use Rattle.tables.specs.Which.{lent_in};
+ghost use Rattle.tables.specs.Lent.{lent_in};
 
 use values::Tolerance;
 
