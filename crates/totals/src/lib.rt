@@ -29,10 +29,11 @@ impl Rights {
     pub fn none() -> Rights
         ensures { result ≡ rights (λ _. 0) }
     {
+        let zero = Share::zero().counts;
         Rights {
-            pr: 0,
-            mr: 0,
-            sr: 0,
+            pr: zero,
+            mr: zero,
+            sr: zero,
         }
     }
 
@@ -107,7 +108,7 @@ impl Totals {
         ensures { (ds : List Bytes) → Sums self ds → result ≡ is2 t ds }
     {
         let total = self.writers;
-        !(Share::at_most(total.pr, 0, t) | Share::at_least(total.pr, Share::HALF, t))
+        !(Share::at_most(total.pr, 0, t) | Share::at_least(total.pr, Share::HALF, t.hundredths))
             | !Share::at_most(total.pr, Share::FULL, t)
             | !Share::at_most(total.mr, Share::FULL, t)
             | !Share::at_most(total.sr, Share::FULL, t)

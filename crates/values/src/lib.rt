@@ -225,16 +225,17 @@ impl Share {
         total <= most + tolerance.hundredths
     }
 
-    pub fn at_least(total: u64, least: u64, tolerance: Tolerance) -> bool
+    // Any tolerance will do: from one as large as the least on, each total is enough.
+    pub fn at_least(total: u64, least: u64, tolerance: u64) -> bool
         ensures { result ≡ leb (least - tolerance) total }
     {
-        least.saturating_sub(tolerance.hundredths) <= total
+        least.saturating_sub(tolerance) <= total
     }
 
     pub fn about(total: u64, share: u64, tolerance: Tolerance) -> bool
         requires { share ≤ full_share }
         ensures { result ≡ (leb (share - tolerance) total && leb total (share + tolerance)) }
     {
-        Share::at_least(total, share, tolerance) & Share::at_most(total, share, tolerance)
+        Share::at_least(total, share, tolerance.hundredths) & Share::at_most(total, share, tolerance)
     }
 }
