@@ -14,7 +14,7 @@ ghost use Rattle.tables.specs.Index.{Indexed};
 ghost use Rattle.structure.specs.Cursor.{Here};
 ghost use Rattle.figures.specs.Counted.{whole_of, UpTo, WithinAll, FiguresOf};
 ghost use Rattle.transactions.specs.Purposes.{Begun};
-ghost use Rattle.transactions.specs.Walk.{rest_at, front_of, PastTransaction};
+ghost use Rattle.transactions.specs.Walk.{rest_at, front_of, Prepared, PastTransaction};
 ghost use Rattle.files.specs.Levels.{transactions_of, group_of, PastTransactions, PastGroup, PastGroups};
 ghost use Rattle.counting.specs.Levels.{transactions_among, MissingOn, CountedTransaction, CountedTransactions, CountedGroup, CountedGroups};
 
@@ -41,9 +41,10 @@ fn count_transaction(
     named: &[u8],
     counters: &mut Counters,
 ) -> Counted
-    requires { Here lent.now.file.now at head (rest_at lent.now.file.now at)
+    requires here { Here lent.now.file.now at head (rest_at lent.now.file.now at)
         × (cls cwr22 (first_record (rest_at lent.now.file.now at)) ≡ head) × (index + length (rest_at lent.now.file.now at) ≤ most_records)
         × Begun index counters.old.findings counters.old.levels }
+    requires prepared { Prepared lent.now.slots.now }
     ensures past_transaction { PastTransaction named.now lent.now.file.now (index + length (rest_at lent.now.file.now at))
         (rest_at lent.now.file.now at) result.passed }
     ensures total_value { (result.total ≡ whole_of (front_of (rest_at lent.now.file.now at)))
@@ -96,8 +97,9 @@ fn count_transactions(
     missing: Missing,
     counters: &mut Counters,
 ) -> Run
-    requires { Here lent.now.file.now start grh (rest_at lent.now.file.now start)
+    requires here { Here lent.now.file.now start grh (rest_at lent.now.file.now start)
         × (first + length (rest_at lent.now.file.now start) ≤ most_records) × Begun first counters.old.findings counters.old.levels × WithinAll first missing }
+    requires prepared { Prepared lent.now.slots.now }
     ensures past_transactions { PastTransactions named.now lent.now.file.now (first + length (rest_at lent.now.file.now start))
         (rest_at lent.now.file.now start) result.passed }
     ensures missing_on { MissingOn first result.passed.index (transactions_of (rest_at lent.now.file.now start)) missing result.missing }
@@ -144,9 +146,10 @@ fn count_group(
     missing: Missing,
     counters: &mut Counters,
 ) -> Section
-    requires { Here lent.now.file.now at grt (rest_at lent.now.file.now at)
+    requires here { Here lent.now.file.now at grt (rest_at lent.now.file.now at)
         × (cls cwr22 (first_record (rest_at lent.now.file.now at)) ≡ grh) × (index + length (rest_at lent.now.file.now at) ≤ most_records)
         × Begun index counters.old.findings counters.old.levels × WithinAll index missing }
+    requires prepared { Prepared lent.now.slots.now }
     ensures past_group { PastGroup lent.now.file.now (index + length (rest_at lent.now.file.now at)) (rest_at lent.now.file.now at) result.next }
     ensures missing_on { MissingOn index result.next.index (group_of (rest_at lent.now.file.now at)).transactions missing result.missing }
     ensures counted_group { (tables : Tables) → Indexed tables lent.now.slots.now
@@ -180,8 +183,9 @@ fn count_groups(
     missing: Missing,
     counters: &mut Counters,
 ) -> Section
-    requires { Here lent.now.file.now start hdr (rest_at lent.now.file.now start)
+    requires here { Here lent.now.file.now start hdr (rest_at lent.now.file.now start)
         × (first + length (rest_at lent.now.file.now start) ≤ most_records) × Begun first counters.old.findings counters.old.levels × WithinAll first missing }
+    requires prepared { Prepared lent.now.slots.now }
     ensures past_groups { PastGroups lent.now.file.now (first + length (rest_at lent.now.file.now start)) result.next }
     ensures missing_on { MissingOn first result.next.index (transactions_among (groups_in cwr22 (rest_at lent.now.file.now start))) missing result.missing }
     ensures counted_groups { (tables : Tables) → Indexed tables lent.now.slots.now
@@ -206,8 +210,9 @@ fn count_groups(
 
 // All records of a file.
 pub fn count_file(lent: &Lent) -> Figures
-    requires { Here lent.now.file.now 0 unknown (rest_at lent.now.file.now 0)
+    requires here { Here lent.now.file.now 0 unknown (rest_at lent.now.file.now 0)
         × (length (rest_at lent.now.file.now 0) ≤ most_records) }
+    requires prepared { Prepared lent.now.slots.now }
     ensures within_all { WithinAll most_records result.missing }
     ensures figures_of { (tables : Tables) → Indexed tables lent.now.slots.now → lent.now.t ≡ sheet_tolerance
         → FiguresOf (record { tables = tables; file = lent.now.file.now }) result }

@@ -44,7 +44,6 @@ fn seek(file: &[u8], tables: Tables, tolerance: Tolerance) -> Option<usize>
     tables.index(&mut slots);
     let lent = Lent {
         file,
-        tables,
         slots: &slots,
         t: tolerance,
     };

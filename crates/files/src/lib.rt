@@ -12,7 +12,7 @@ ghost use Rattle.rules.specs.Tables.{Tables, language_size, society_size, catego
 ghost use Rattle.tables.specs.Index.{Indexed};
 ghost use Rattle.tables.specs.Lent.{lent_in};
 ghost use Rattle.structure.specs.Cursor.{Here};
-ghost use Rattle.transactions.specs.Walk.{rest_at, Room, Filled};
+ghost use Rattle.transactions.specs.Walk.{rest_at, Prepared, Room, Filled};
 ghost use Rattle.files.specs.Levels.{transactions_of, group_of, PastTransactions, PastGroup, PastGroups};
 ghost use Rattle.files.specs.Levels.{FilledTransactions, FilledGroup, FilledGroups, WrittenFile};
 
@@ -47,8 +47,9 @@ fn judge_transactions(
     verdicts: &mut [u8],
     findings: &mut [u8],
 ) -> Passed
-    requires { Here lent.now.file.now start grh (rest_at lent.now.file.now start)
+    requires here { Here lent.now.file.now start grh (rest_at lent.now.file.now start)
         × Room (first + length (rest_at lent.now.file.now start)) (length verdicts.old) (length findings.old) }
+    requires prepared { Prepared lent.now.slots.now }
     ensures past_transactions { PastTransactions named.now lent.now.file.now (first + length (rest_at lent.now.file.now start))
         (rest_at lent.now.file.now start) result }
     ensures filled_transactions { (tables : Tables) → Indexed tables lent.now.slots.now
@@ -81,9 +82,10 @@ fn judge_group(
     verdicts: &mut [u8],
     findings: &mut [u8],
 ) -> Next
-    requires { Here lent.now.file.now at grt (rest_at lent.now.file.now at)
+    requires here { Here lent.now.file.now at grt (rest_at lent.now.file.now at)
         × (cls cwr22 (first_record (rest_at lent.now.file.now at)) ≡ grh)
         × Room (index + length (rest_at lent.now.file.now at)) (length verdicts.old) (length findings.old) }
+    requires prepared { Prepared lent.now.slots.now }
     ensures past_group { PastGroup lent.now.file.now (index + length (rest_at lent.now.file.now at)) (rest_at lent.now.file.now at) result }
     ensures filled_group { (tables : Tables) → Indexed tables lent.now.slots.now
         → FilledGroup tables lent.now.t index result.index (group_of (rest_at lent.now.file.now at))
@@ -121,8 +123,9 @@ fn judge_groups(
     verdicts: &mut [u8],
     findings: &mut [u8],
 ) -> Next
-    requires { Here lent.now.file.now start hdr (rest_at lent.now.file.now start)
+    requires here { Here lent.now.file.now start hdr (rest_at lent.now.file.now start)
         × Room (first + length (rest_at lent.now.file.now start)) (length verdicts.old) (length findings.old) }
+    requires prepared { Prepared lent.now.slots.now }
     ensures past_groups { PastGroups lent.now.file.now (first + length (rest_at lent.now.file.now start)) result }
     ensures filled_groups { (tables : Tables) → Indexed tables lent.now.slots.now
         → FilledGroups tables lent.now.t first result.index (groups_in cwr22 (rest_at lent.now.file.now start))
@@ -140,8 +143,9 @@ fn judge_groups(
 
 // All records of a file.
 pub fn judge_file(lent: &Lent, verdicts: &mut [u8], findings: &mut [u8])
-    requires { Here lent.now.file.now 0 unknown (rest_at lent.now.file.now 0)
+    requires here { Here lent.now.file.now 0 unknown (rest_at lent.now.file.now 0)
         × Room (length (rest_at lent.now.file.now 0)) (length verdicts.old) (length findings.old) }
+    requires prepared { Prepared lent.now.slots.now }
     ensures { (tables : Tables) → Indexed tables lent.now.slots.now
         → WrittenFile tables lent.now.t lent.now.file.now
         verdicts.old findings.old verdicts.new findings.new }
@@ -169,7 +173,6 @@ pub fn judge(
     tables.index(&mut slots);
     let lent = Lent {
         file,
-        tables,
         slots: &slots,
         t: tolerance,
     };

@@ -15,7 +15,7 @@ ghost use Rattle.rules.specs.Outcome.{content};
 ghost use Rattle.rules.specs.First.{is_grave};
 ghost use Rattle.tables.specs.Index.{Indexed};
 ghost use Rattle.structure.specs.Cursor.{Here};
-ghost use Rattle.transactions.specs.Walk.{rest_at, tail_of, front_of};
+ghost use Rattle.transactions.specs.Walk.{rest_at, tail_of, front_of, Prepared};
 ghost use Rattle.files.specs.Levels.{transactions_of, group_of};
 ghost use Rattle.search.specs.Levels.{PastCleanTransaction, PastCleanGroup, is_grave_transaction};
 ghost use Rattle.search.specs.Levels.{sets_of, sets_of_group, first_grave, from, in_group, in_file};
@@ -28,8 +28,9 @@ use transactions::{Lent, Passed, Purpose};
 // One transaction, whose header stands here and is that record of the file, in a group whose GRH names that type: past it, or None where
 // a record of its own has such a finding.
 fn search_transaction(lent: &Lent, at: usize, index: usize, named: &[u8]) -> Option<Passed>
-    requires { Here lent.now.file.now at head (rest_at lent.now.file.now at)
+    requires here { Here lent.now.file.now at head (rest_at lent.now.file.now at)
         × (cls cwr22 (first_record (rest_at lent.now.file.now at)) ≡ head) × (index + length (rest_at lent.now.file.now at) ≤ most_records) }
+    requires prepared { Prepared lent.now.slots.now }
     ensures past_clean_transaction { PastCleanTransaction named.now lent.now.file.now (index + length (rest_at lent.now.file.now at))
         (rest_at lent.now.file.now at) result }
     ensures result_value { (tables : Tables) → Indexed tables lent.now.slots.now
@@ -78,8 +79,9 @@ fn search_transactions(
     named: &[u8],
     number: usize,
 ) -> Result<Clean, usize>
-    requires { Here lent.now.file.now start grh (rest_at lent.now.file.now start)
+    requires here { Here lent.now.file.now start grh (rest_at lent.now.file.now start)
         × (first + length (rest_at lent.now.file.now start) ≤ most_records) × (number ≤ first) }
+    requires prepared { Prepared lent.now.slots.now }
     ensures past_clean_group { PastCleanGroup named.now lent.now.file.now (first + length (rest_at lent.now.file.now start)) number
         (rest_at lent.now.file.now start) result }
     ensures result_value { (tables : Tables) → Indexed tables lent.now.slots.now
@@ -109,9 +111,10 @@ fn search_transactions(
 
 // One group, whose GRH stands here and is that record of the file; its first transaction has that number.
 fn search_group(lent: &Lent, at: usize, index: usize, number: usize) -> Result<Clean, usize>
-    requires { Here lent.now.file.now at grt (rest_at lent.now.file.now at)
+    requires here { Here lent.now.file.now at grt (rest_at lent.now.file.now at)
         × (cls cwr22 (first_record (rest_at lent.now.file.now at)) ≡ grh)
         × (index + length (rest_at lent.now.file.now at) ≤ most_records) × (number ≤ index) }
+    requires prepared { Prepared lent.now.slots.now }
     ensures past_clean_group { PastCleanGroup (named_type (first_record (rest_at lent.now.file.now at))) lent.now.file.now
         (index + length (rest_at lent.now.file.now at)) number (tail_of (rest_at lent.now.file.now at)) result }
     ensures result_value { (tables : Tables) → Indexed tables lent.now.slots.now
@@ -125,8 +128,9 @@ fn search_group(lent: &Lent, at: usize, index: usize, number: usize) -> Result<C
 
 // The groups of a file: the number of its first such transaction.
 pub fn search(lent: &Lent) -> Option<usize>
-    requires { Here lent.now.file.now 0 unknown (rest_at lent.now.file.now 0)
+    requires here { Here lent.now.file.now 0 unknown (rest_at lent.now.file.now 0)
         × (length (rest_at lent.now.file.now 0) ≤ most_records) }
+    requires prepared { Prepared lent.now.slots.now }
     ensures { (tables : Tables) → Indexed tables lent.now.slots.now
         → in_file result ≡ first_grave (joined (sets_of_group tables lent.now.t) (content lent.now.file.now).groups) }
 {

@@ -127,7 +127,6 @@ fn count(file: &[u8], tables: Tables) -> Figures
     tables.index(&mut slots);
     let lent = Lent {
         file,
-        tables,
         slots: &slots,
         t: Tolerance {
             hundredths: Share::SLACK,

@@ -6,4 +6,3 @@ pub mod Standing
 pub mod Gone
 pub mod Fronts
 pub mod Purposes
-pub mod Prepared

@@ -11,6 +11,7 @@ use Rattle.format.specs.Structure.{most_records, first_record}
 use Rattle.format.specs.Numbering.{records_in}
 use Rattle.format.specs.Tree.{span, after, is_detail}
 use Rattle.rules.specs.Tables.{Tables}
+use Rattle.tables.specs.Index.{Indexed}
 use Rattle.rules.specs.Works.{is0, transaction_findings}
 use Rattle.rules.specs.Verdicts.{transaction_verdicts}
 use Rattle.structure.specs.Cursor.{Here}
@@ -30,6 +31,10 @@ rest_at f i = records_in (lines (drop i f))
 abbrev pub tail_of : List Bytes → List Bytes
 tail_of [] = []
 tail_of (r ∷ rs) = rs
+
+-- the slots are an index of some tables
+abbrev pub Prepared : List ℕ → Type 0
+Prepared slots = (tables : Tables) × Indexed tables slots
 
 -- ---- where a walk stands
 

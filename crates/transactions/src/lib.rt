@@ -20,7 +20,7 @@ ghost use Rattle.tally.specs.Known.{Known};
 ghost use Rattle.headers.specs.Headed.{Linked, Headed};
 ghost use Rattle.structure.specs.Cursor.{Here};
 ghost use Rattle.transactions.specs.Walk.{Outset, Turned};
-ghost use Rattle.transactions.specs.Walk.{rest_at, front_of, Room, PastDetails, PastTransaction, FilledTransaction};
+ghost use Rattle.transactions.specs.Walk.{rest_at, front_of, Prepared, Room, PastDetails, PastTransaction, FilledTransaction};
 ghost use Rattle.transactions.specs.Purposes.{is_write, is_count, is_search, Writes, Wrote, Tells, Told, LentFor, DoneDetails};
 
 use chains::Chains;
@@ -173,10 +173,11 @@ pub fn judge_details(
     findings: &mut [u8],
     counters: &mut Counters,
 ) -> Details
-    requires { Here lent.now.file.now start head (rest_at lent.now.file.now start)
+    requires here { Here lent.now.file.now start head (rest_at lent.now.file.now start)
         × (first + length (rest_at lent.now.file.now start) ≤ most_records)
         × LentFor purpose first (first + length (rest_at lent.now.file.now start)) verdicts.old findings.old
         counters.old.findings counters.old.levels }
+    requires prepared { Prepared lent.now.slots.now }
     ensures past_details { (is_search purpose && result.rejects) ≡ false
         → PastDetails lent.now.file.now (first + length (rest_at lent.now.file.now start)) (rest_at lent.now.file.now start) result }
     ensures done_details { (tables : Tables) → Indexed tables lent.now.slots.now
@@ -252,9 +253,10 @@ pub fn judge_transaction(
     verdicts: &mut [u8],
     findings: &mut [u8],
 ) -> Passed
-    requires { Here lent.now.file.now at head (rest_at lent.now.file.now at)
+    requires here { Here lent.now.file.now at head (rest_at lent.now.file.now at)
         × (cls cwr22 (first_record (rest_at lent.now.file.now at)) ≡ head)
         × Room (index + length (rest_at lent.now.file.now at)) (length verdicts.old) (length findings.old) }
+    requires prepared { Prepared lent.now.slots.now }
     ensures past_transaction { PastTransaction named.now lent.now.file.now (index + length (rest_at lent.now.file.now at))
         (rest_at lent.now.file.now at) result }
     ensures filled_transaction { (tables : Tables) → Indexed tables lent.now.slots.now

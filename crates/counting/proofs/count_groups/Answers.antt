@@ -2,7 +2,6 @@
 use mathlib.Core.Path.{refl, sym, ◌∙◌}
 use Rattle.format.specs.Doc.{Group}
 use Rattle.rules.specs.Verdicts.{group_findings, group_verdicts}
-use Rattle.transactions.proofs.Prepared.{prepared}
 use Rattle.transactions.specs.Walk.{rest_at}
 use Rattle.transactions.specs.Purposes.{Begun}
 use Rattle.files.specs.Levels.{group_of}
@@ -15,7 +14,7 @@ use Rattle.counting.proofs.count_groups.Goals as goal
 -- ---- what is counted so far
 pub groups-init : goal.groups-init
 groups-init c =
-    begins (record { here = c.requires.0; left = refl }) (missing-none _ _, λ tables e. part-start _ _ _)
+    begins (record { here = c.requires.here.0; left = refl }) (missing-none _ _, λ tables e. part-start _ _ _)
 
 pub is_group-requires : goal.is_group-requires
 is_group-requires c = in-file c.groups.invariant
@@ -24,12 +23,12 @@ is_group-requires c = in-file c.groups.invariant
 pub count_group-one-requires : goal.count_group-one-requires
 count_group-one-requires c =
     let begun : Begun c.groups.n.index c.groups.counters.findings c.groups.counters.levels =
-    let (some, indexed) = prepared c.args.lent.now in
-    begun-on ((done c.groups.invariant).1 some indexed) c.requires.2 in
+    let (some, indexed) = c.requires.prepared in
+    begun-on ((done c.groups.invariant).1 some indexed) c.requires.here.2 in
     let inv = c.groups.invariant in
     let here = position inv in
     let is-grh = group-here inv (sym c.is_group.ensures ∙ c.groups-test.true) in
-    (here.here, is-grh, rw here.left c.requires.1, begun, (done inv).0.few c.requires.3)
+    record { here = (here.here, is-grh, rw here.left c.requires.here.1, begun, (done inv).0.few c.requires.here.3); prepared = c.requires.prepared }
 
 pub groups-smaller : goal.groups-smaller
 groups-smaller c =

@@ -8,7 +8,6 @@ use Rattle.format.specs.Structure.{most_records}
 use Rattle.rules.specs.Works.{transaction_findings}
 use Rattle.rules.specs.Verdicts.{transaction_verdicts}
 use Rattle.rules.proofs.Each.{transaction-findings}
-use Rattle.transactions.proofs.Prepared.{prepared}
 use Rattle.transactions.specs.Walk.{rest_at, front_of}
 use Rattle.transactions.specs.Purposes.{Begun}
 use Rattle.files.proofs.Transactions.{begins, xs, position, done, header-here, one_more, fewer-left, past_all, all_done}
@@ -19,30 +18,30 @@ use Rattle.counting.proofs.count_transactions.Goals as goal
 -- ---- what is counted so far
 pub loop-p-init : goal.loop-p-init
 loop-p-init c =
-    begins (record { here = c.requires.0; left = refl }) (missing-none _ _, λ tables e. part-start _ _ _)
+    begins (record { here = c.requires.here.0; left = refl }) (missing-none _ _, λ tables e. part-start _ _ _)
 
 -- ---- one transaction more
 pub count_transaction-one-requires : goal.count_transaction-one-requires
 count_transaction-one-requires c =
     let begun : Begun c.loop-p.p.index c.loop-p.counters.findings c.loop-p.counters.levels =
-    let (some, indexed) = prepared c.args.lent.now in
-    begun-on ((done c.loop-p.invariant).1 some indexed) c.requires.2 in
+    let (some, indexed) = c.requires.prepared in
+    begun-on ((done c.loop-p.invariant).1 some indexed) c.requires.here.2 in
     let inv = c.loop-p.invariant in
     let here = position inv in
-    (here.here, header-here inv c.in-Head.is, rw here.left c.requires.1, begun)
+    record { here = (here.here, header-here inv c.in-Head.is, rw here.left c.requires.here.1, begun); prepared = c.requires.prepared }
 
 pub with-m-requires : goal.with-m-requires
 with-m-requires c =
     let few : c.loop-p.p.index ≤ most_records =
-    omega (arith, (position c.loop-p.invariant).left, c.requires.1) in
+    omega (arith, (position c.loop-p.invariant).left, c.requires.here.1) in
     let ended : c.count_transaction-one.result.passed.index ≡ c.loop-p.p.index + suc (length (front_of (rest_at c.args.lent.now.file.now c.loop-p.p.at)).details) =
     let args = c.args in
-    let (some, indexed) = prepared c.args.lent.now in
+    let (some, indexed) = c.requires.prepared in
     (c.count_transaction-one.ensures.counted_transaction some indexed).end
     ∙ ap (λ n. c.loop-p.p.index + n) (transaction-findings some args.lent.now.t args.named.now _) in
     let few-then : c.count_transaction-one.result.passed.index ≤ most_records =
-    omega (arith, c.count_transaction-one.ensures.past_transaction.position.left, (position c.loop-p.invariant).left, c.requires.1) in (
-      within_more few ((done c.loop-p.invariant).0.few c.requires.3),
+    omega (arith, c.count_transaction-one.ensures.past_transaction.position.left, (position c.loop-p.invariant).left, c.requires.here.1) in (
+      within_more few ((done c.loop-p.invariant).0.few c.requires.here.3),
       up_more _ most_records (omega (arith, ended, few-then)) c.count_transaction-one.ensures.total_value.1,
     )
 
@@ -54,7 +53,7 @@ pub loop-p-preserved : goal.loop-p-preserved
 loop-p-preserved c =
     let ended : c.count_transaction-one.result.passed.index ≡ c.loop-p.p.index + suc (length (front_of (rest_at c.args.lent.now.file.now c.loop-p.p.at)).details) =
     let args = c.args in
-    let (some, indexed) = prepared c.args.lent.now in
+    let (some, indexed) = c.requires.prepared in
     (c.count_transaction-one.ensures.counted_transaction some indexed).end
     ∙ ap (λ n. c.loop-p.p.index + n) (transaction-findings some args.lent.now.t args.named.now _) in
     let with = c.with-m in

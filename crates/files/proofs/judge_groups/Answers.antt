@@ -5,7 +5,6 @@ use mathlib.Core.Path.{refl, sym, ◌∙◌}
 use lib.ListN.{length}
 use Rattle.rules.specs.Verdicts.{group_findings, group_verdicts}
 use Rattle.buffers.proofs.Entries.{kept-v, kept-f}
-use Rattle.transactions.proofs.Prepared.{prepared}
 use Rattle.transactions.specs.Walk.{rest_at, Room}
 use Rattle.transactions.proofs.Entries.{filled_none, room-kept}
 use Rattle.files.proofs.Entries.{filled-part}
@@ -14,7 +13,7 @@ use Rattle.files.proofs.judge_groups.Goals as goal
 
 pub groups-init : goal.groups-init
 groups-init c =
-    begins (record { here = c.requires.0; left = refl }) (λ tables e. filled_none c.requires.1 (omega arith))
+    begins (record { here = c.requires.here.0; left = refl }) (λ tables e. filled_none c.requires.here.1 (omega arith))
 
 pub is_group-requires : goal.is_group-requires
 is_group-requires c = in-file c.groups.invariant
@@ -22,11 +21,11 @@ is_group-requires c = in-file c.groups.invariant
 pub judge_group-n-requires : goal.judge_group-n-requires
 judge_group-n-requires c =
     let room : Room (c.args.first + length (rest_at c.args.lent.now.file.now c.args.start)) (length c.groups.verdicts) (length c.groups.findings) =
-    let some = prepared c.args.lent.now in
-    room-kept (done c.groups.invariant some.0 some.1) c.requires.1 in
+    let some = c.requires.prepared in
+    room-kept (done c.groups.invariant some.0 some.1) c.requires.here.1 in
     let here = position c.groups.invariant in
     let is-grh = group-here c.groups.invariant (sym c.is_group.ensures ∙ c.groups-test.true) in
-    (here.here, is-grh, rw here.left room)
+    record { here = (here.here, is-grh, rw here.left room); prepared = c.requires.prepared }
 
 pub groups-smaller : goal.groups-smaller
 groups-smaller c =
@@ -42,12 +41,12 @@ groups-preserved c =
 
 pub shape_of-verdicts : goal.shape_of-verdicts
 shape_of-verdicts c =
-    let some = prepared c.args.lent.now in
+    let some = c.requires.prepared in
     kept-v (done c.groups.invariant some.0 some.1).written
 
 pub shape_of-findings : goal.shape_of-findings
 shape_of-findings c =
-    let some = prepared c.args.lent.now in
+    let some = c.requires.prepared in
     kept-f (done c.groups.invariant some.0 some.1).written
 
 pub returns : goal.returns

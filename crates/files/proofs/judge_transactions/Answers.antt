@@ -7,7 +7,6 @@ use lib.ListN.{length}
 use Rattle.rules.specs.Works.{transaction_findings}
 use Rattle.rules.specs.Verdicts.{transaction_verdicts}
 use Rattle.buffers.proofs.Entries.{kept-v, kept-f}
-use Rattle.transactions.proofs.Prepared.{prepared}
 use Rattle.transactions.specs.Walk.{rest_at, Room}
 use Rattle.transactions.proofs.Entries.{filled_none, room-kept}
 use Rattle.files.proofs.Entries.{filled-part}
@@ -16,16 +15,16 @@ use Rattle.files.proofs.judge_transactions.Goals as goal
 
 pub loop-p-init : goal.loop-p-init
 loop-p-init c =
-    begins (record { here = c.requires.0; left = refl }) (λ tables e. filled_none c.requires.1 (omega arith))
+    begins (record { here = c.requires.here.0; left = refl }) (λ tables e. filled_none c.requires.here.1 (omega arith))
 
 pub judge_transaction-q-requires : goal.judge_transaction-q-requires
 judge_transaction-q-requires c =
     let room : Room (c.args.first + length (rest_at c.args.lent.now.file.now c.args.start)) (length c.loop-p.verdicts) (length c.loop-p.findings) =
-    let some = prepared c.args.lent.now in
-    room-kept (done c.loop-p.invariant some.0 some.1) c.requires.1 in
+    let some = c.requires.prepared in
+    room-kept (done c.loop-p.invariant some.0 some.1) c.requires.here.1 in
     let inv = c.loop-p.invariant in
     let here = position inv in
-    (here.here, header-here inv c.in-Head.is, rw here.left room)
+    record { here = (here.here, header-here inv c.in-Head.is, rw here.left room); prepared = c.requires.prepared }
 
 pub loop-p-smaller : goal.loop-p-smaller
 loop-p-smaller c =
@@ -43,12 +42,12 @@ loop-p-preserved c =
 
 pub shape_of-verdicts : goal.shape_of-verdicts
 shape_of-verdicts c =
-    let some = prepared c.args.lent.now in
+    let some = c.requires.prepared in
     kept-v (done c.loop-p.invariant some.0 some.1).written
 
 pub shape_of-findings : goal.shape_of-findings
 shape_of-findings c =
-    let some = prepared c.args.lent.now in
+    let some = c.requires.prepared in
     kept-f (done c.loop-p.invariant some.0 some.1).written
 
 pub returns : goal.returns

@@ -14,7 +14,7 @@ use Rattle.search.proofs.search.Goals as goal
 
 -- ----
 pub groups-init : goal.groups-init
-groups-init c = (begins (groups-here c.requires.0) (λ tables e. (refl, refl)), omega arith)
+groups-init c = (begins (groups-here c.requires.here.0) (λ tables e. (refl, refl)), omega arith)
 
 pub is_group-requires : goal.is_group-requires
 is_group-requires c = in-file c.groups.invariant.0
@@ -24,7 +24,7 @@ search_group-requires c =
     let inv = c.groups.invariant.0 in
     let here = position inv in
     let is-grh = group-here inv (sym c.is_group.ensures ∙ c.groups-test.true) in
-    (here.here, is-grh, rw here.left c.requires.1, c.groups.invariant.1)
+    record { here = (here.here, is-grh, rw here.left c.requires.here.1, c.groups.invariant.1); prepared = c.requires.prepared }
 
 -- ---- found
 pub returns-in-Err : goal.returns-in-Err
@@ -33,7 +33,7 @@ returns-in-Err c tables e =
     let opens = group-here inv (sym c.is_group.ensures ∙ c.groups-test.true) in
     let (counted, none_yet) = done inv tables e in
     grave-in (sets_of_group tables c.args.lent.now.t) inv.0 counted none_yet (group_of (rest_at c.args.lent.now.file.now c.groups.n.at)) _
-    (all-groups c.requires.0 ∙ split-here inv opens)
+    (all-groups c.requires.here.0 ∙ split-here inv opens)
     (c.in-Err.ensures.result_value tables e)
 
 -- ---- the group is clean, and the walk is past it
@@ -51,7 +51,7 @@ overflow_add-n-in-Ok-2 c =
 
 pub overflow_add-n-in-Ok-3 : goal.overflow_add-n-in-Ok-3
 overflow_add-n-in-Ok-3 c =
-    omega (arith, c.in-Ok.ensures.past_clean_group.0.position.left, (position c.groups.invariant.0).left, c.requires.1)
+    omega (arith, c.in-Ok.ensures.past_clean_group.0.position.left, (position c.groups.invariant.0).left, c.requires.here.1)
 
 pub groups-smaller : goal.groups-smaller
 groups-smaller c =
@@ -81,4 +81,4 @@ returns c tables e =
     let inv = c.groups.invariant.0 in
     let (counted, none_yet) = done inv tables e in
     none_in (sets_of_group tables c.args.lent.now.t) inv.0 counted none_yet
-    (all-groups c.requires.0 ∙ all-gone inv (sym c.is_group.ensures ∙ c.groups-test.false))
+    (all-groups c.requires.here.0 ∙ all-gone inv (sym c.is_group.ensures ∙ c.groups-test.false))

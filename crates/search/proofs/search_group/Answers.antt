@@ -10,19 +10,19 @@ use Rattle.search.proofs.search_group.Goals as goal
 
 pub slice_bounds-opening-end : goal.slice_bounds-opening-end
 slice_bounds-opening-end c =
-    let position = standing c.args.index c.requires.0 in
-    omega (arith, opening-ends position c.requires.1)
+    let position = standing c.args.index c.requires.here.0 in
+    omega (arith, opening-ends position c.requires.here.1)
 
 pub search_transactions-requires : goal.search_transactions-requires
 search_transactions-requires c =
-    let position = standing c.args.index c.requires.0 in
-    let here = position-after group-header position refl c.requires.1 _ refl in
-    (here.here, rw here.left c.requires.2, omega (arith, c.requires.3))
+    let position = standing c.args.index c.requires.here.0 in
+    let here = position-after group-header position refl c.requires.here.1 _ refl in
+    record { here = (here.here, rw here.left c.requires.here.2, omega (arith, c.requires.here.3)); prepared = c.requires.prepared }
 
 pub returns : goal.returns
 returns c =
-    let position = standing c.args.index c.requires.0 in
-    let is-grh = c.requires.1 in
+    let position = standing c.args.index c.requires.here.0 in
+    let is-grh = c.requires.here.1 in
     let named = c.field-named.ensures.result_value ∙ ap named_type (opening-lent position is-grh _ refl) in
     let found = c.search_transactions.result in record {
       past_clean_group = rw named

@@ -11,7 +11,6 @@ use Rattle.rules.specs.Tables.{Tables}
 use Rattle.tables.specs.Index.{Indexed}
 use Rattle.kinds.proofs.Laws.{hinted}
 use Rattle.structure.proofs.Rows.{in_table}
-use Rattle.transactions.proofs.Prepared.{prepared}
 use Rattle.transactions.specs.Walk.{rest_at}
 use Rattle.transactions.specs.Purposes.{is_search}
 use Rattle.transactions.proofs.Entries.{entry-room}
@@ -24,8 +23,8 @@ use Rattle.transactions.proofs.judge_details.Goals as goal
 -- ---- the start, and the row of the record that stands here
 pub loop-rejects-init : goal.loop-rejects-init
 loop-rejects-init c =
-    begins (record { here = c.requires.0; left = refl }) c.start-w.ensures c.none-chains.ensures
-    (λ tables e. rw c.start-w.ensures.index (done_none c.args.purpose tables c.requires.2 (omega arith)))
+    begins (record { here = c.requires.here.0; left = refl }) c.start-w.ensures c.none-chains.ensures
+    (λ tables e. rw c.start-w.ensures.index (done_none c.args.purpose tables c.requires.here.2 (omega arith)))
 
 pub hint_at-k-requires : goal.hint_at-k-requires
 hint_at-k-requires c = three c.loop-rejects.invariant
@@ -39,12 +38,12 @@ row_at-row-requires c =
 
 pub shape_of-verdicts-then-ne-searched : goal.shape_of-verdicts-then-ne-searched
 shape_of-verdicts-then-ne-searched c =
-    let some = prepared c.args.lent.now in
+    let some = c.requires.prepared in
     (same-lengths (done c.loop-rejects.invariant some.0 some.1)).0
 
 pub shape_of-findings-then-ne-searched : goal.shape_of-findings-then-ne-searched
 shape_of-findings-then-ne-searched c =
-    let some = prepared c.args.lent.now in
+    let some = c.requires.prepared in
     (same-lengths (done c.loop-rejects.invariant some.0 some.1)).1
 
 pub returns-then-ne-searched : goal.returns-then-ne-searched
@@ -63,20 +62,20 @@ returns-then-ne-searched c =
 pub judge_detail-s-requires : goal.judge_detail-s-requires
 judge_detail-s-requires c =
     let inv = c.loop-rejects.invariant in
-    let few : length (rest_at c.args.lent.now.file.now c.args.start) ≤ most_records = omega (arith, c.requires.1) in record { here = (here inv, c.row_at-row.ensures, is-detail _ _ _ c.ne.ensures c.if-ne-searched.false, numbered inv c.requires.1); below = (below inv few, small-chains inv few) }
+    let few : length (rest_at c.args.lent.now.file.now c.args.start) ≤ most_records = omega (arith, c.requires.here.1) in record { here = (here inv, c.row_at-row.ensures, is-detail _ _ _ c.ne.ensures c.if-ne-searched.false, numbered inv c.requires.here.1); below = (below inv few, small-chains inv few) }
 
 pub write-requires : goal.write-requires
 write-requires c =
     let inv = c.loop-rejects.invariant in
-    let some = prepared c.args.lent.now in
-    writes (done inv some.0 some.1) _ c.requires.2 (entry-room (position inv) refl)
+    let some = c.requires.prepared in
+    writes (done inv some.0 some.1) _ c.requires.here.2 (entry-room (position inv) refl)
 
 pub tell-rejects-requires : goal.tell-rejects-requires
 tell-rejects-requires c =
     let inv = c.loop-rejects.invariant in
-    let some = prepared c.args.lent.now in
+    let some = c.requires.prepared in
     let turned = (c.judge_detail-s.ensures.turned some.0 (ds inv) some.1 (known inv) (tallied inv)).0 in
-    tells (done inv some.0 some.1) _ c.requires.2 (omega (arith, among-all inv, c.requires.1))
+    tells (done inv some.0 some.1) _ c.requires.here.2 (omega (arith, among-all inv, c.requires.here.1))
     (rw turned.judged.level (omega (arith, own-worst some.0 (ds inv) (r inv))))
 
 pub loop-rejects-smaller : goal.loop-rejects-smaller
@@ -88,7 +87,7 @@ loop-rejects-smaller c =
 pub loop-rejects-preserved : goal.loop-rejects-preserved
 loop-rejects-preserved c =
     let inv = c.loop-rejects.invariant in
-    let some = prepared c.args.lent.now in
+    let some = c.requires.prepared in
     let turned : (tables : Tables) → Indexed tables c.args.lent.now.slots.now → _ = λ tables e. c.judge_detail-s.ensures.turned tables (ds inv) e (known inv) (tallied inv) in
     let (at, index) = c.judge_detail-s.ensures.at_value in
     one_more inv c.row_at-row.ensures (is-detail _ _ _ c.ne.ensures c.if-ne-searched.false)
