@@ -9,7 +9,7 @@
  * - Calls may run in several threads at once, as long as none writes what is
  *   lent to another: between calls nothing is kept, and the library has no
  *   data of its own that is written.
- * - A check takes up to 68 KB of stack, as do a search and a sheet, a check with
+ * - A check takes up to 67 KB of stack, as do a search and a sheet, a check with
  *   a territory table up to 99 KB, and numbering up to 5 KB (measured, by
  *   `bench/run stack`); 128 KB are enough for any call. No memory is allocated.
  * - A record is the text before a CR LF pair; records count from 0.
