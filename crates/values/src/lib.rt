@@ -236,6 +236,7 @@ impl Share {
         requires { share ≤ full_share }
         ensures { result ≡ (leb (share - tolerance) total && leb total (share + tolerance)) }
     {
-        Share::at_least(total, share, tolerance.hundredths) & Share::at_most(total, share, tolerance)
+        Share::at_least(total, share, tolerance.hundredths)
+            & Share::at_most(total, share, tolerance)
     }
 }
