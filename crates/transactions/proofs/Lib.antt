@@ -6,3 +6,4 @@ pub mod Standing
 pub mod Gone
 pub mod Fronts
 pub mod Purposes
+pub mod Prepared
