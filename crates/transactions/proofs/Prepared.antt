@@ -60,6 +60,7 @@ module _ {size first : ℕ} {es : List Bytes} {slots : List ℕ} (p : ∥ Part s
     ascending = λ q a b. ∥∥₁_elim p le_prop (λ x. x.ascending q a b);
   }
 
+-- the slots are an index of these tables
 pub indexed : {tables : Tables} {slots : List ℕ} → ∥ Indexed tables slots ∥₁ → Indexed tables slots
 indexed p = record {
   of_languages = part (∥∥₁_map p (λ x. x.of_languages));
@@ -67,6 +68,6 @@ indexed p = record {
   of_categories = part (∥∥₁_map p (λ x. x.of_categories));
 }
 
--- the slots are an index of some tables
+-- and so of some tables, as a walk asks
 pub prepared : {tables : Tables} {slots : List ℕ} → ∥ Indexed tables slots ∥₁ → Prepared slots
 prepared p = (_, indexed p)
